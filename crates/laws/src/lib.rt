@@ -1,0 +1,32 @@
+// What the other crates' definitions and proofs share. The definitions are in specs/, their laws in proofs/.
+
+ghost use mathlib.Core.Path.{_≡_};
+ghost use Rattle.laws.specs.Choice.{every, within};
+
+// A number that was looked for: a row, or a response.
+pub enum Found {
+    At(usize),
+    Nothing,
+}
+
+// Whether every test of a list holds: a rule that is a list of tests is code that lends that list.
+pub fn all_of(b: &[bool]) -> bool
+    ensures { λ r. ⌜ r ≡ every (now (b .entry)) ⌝ }
+{
+    for i in 0..b.len() {
+        if !b[i] {
+            return false;
+        }
+    }
+    true
+}
+
+// Whether a number lies from low to high, both included.
+pub fn is_within(low: u64, high: u64, x: u64) -> bool
+    ensures { λ r. ⌜ r ≡ within low high x ⌝ }
+{
+    if x < low {
+        return false;
+    }
+    x <= high
+}
