@@ -1,0 +1,5 @@
+pub mod Refusals
+pub mod Rows
+pub mod Rules
+pub mod Pairs
+pub mod Parts

@@ -1,0 +1,26 @@
+-- 01, Numbers for no: "5 for the first pair of server rows with equal priority, smaller row first (pairs ordered by it, then by
+-- the larger row), then the same for tasks".
+use mathlib.Core.Bool.{Bool}
+use Prim.Native.Nat.{ℕ, suc, _-_}
+use lib.Dec.{eqb}
+use Rattle.laws.specs.declared.Found.{Found}
+use Rattle.laws.specs.declared.Found.the-variants.{At, Nothing}
+use Rattle.laws.specs.Search.{least, isFound}
+use Rattle.table.specs.declared.Pair.{Pair}
+use Rattle.table.specs.declared.Pair.the-variants.{Equal, Differ}
+
+-- the first row after i, below n, whose priority equals that of row i
+unfoldable pub laterEqual : ℕ → (ℕ → ℕ) → ℕ → Found
+laterEqual n priority i = least (λ j. eqb (priority i) (priority j)) (suc i) (n - suc i)
+
+abbrev pub withLater : ℕ → Found → Pair
+withLater i (At j) = Equal i j
+withLater i Nothing = Differ
+
+abbrev pub withFirst : (ℕ → Found) → Found → Pair
+withFirst later (At i) = withLater i (later i)
+withFirst later Nothing = Differ
+
+-- the first row that a later one equals, with the first that does
+unfoldable pub firstPair : ℕ → (ℕ → ℕ) → Pair
+firstPair n priority = withFirst (laterEqual n priority) (least (λ i. isFound (laterEqual n priority i)) 0 n)
