@@ -1,0 +1,5 @@
+pub mod Cut
+pub mod Walk
+pub mod Digits
+pub mod Parts
+pub mod Room

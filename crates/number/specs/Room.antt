@@ -1,0 +1,13 @@
+-- Bytes put into a lent room: what is left in it, and where the next byte goes. 01, Numbers for no: "A writer changes
+-- nothing beyond the text."
+use mathlib.Core.Path.{_≡_}
+use mathlib.Core.List.{List}
+use Prim.Native.Nat.{ℕ, _+_, min, max}
+use lib.ListN.{length}
+use lib.Seq.{sets}
+
+-- Byte by byte from place `at` on; a byte for which there is no room is left out. The next byte goes after the text, or
+-- at the end of the room.
+pub record Put (text room : List ℕ) (at : ℕ) (left : List ℕ) (next : ℕ) : Type 0 where
+  pub leaves : left ≡ sets room at text
+  pub ends : next ≡ max at (min (at + length text) (length room))

@@ -1,0 +1,334 @@
+-- A line and its text are inverse: what a written line says is what was written, and a line that has a form is written
+-- as it stands. Nothing here knows a bound or a row. Assumes nothing.
+use mathlib.Core.Path.{_≡_, refl, sym, ap}
+use mathlib.Core.Bool.{Bool, true, false, _||_}
+use mathlib.Core.List.{List, [], _∷_}
+use mathlib.Core.Logic.{_⊎_, inl, inr}
+use Prim.Native.Nat.{ℕ, zero, suc, _≤_, _<_}
+use native.Mathlib.Omega.{arith}
+use lib.ListN.{length, getD}
+use borrow.Author.Tests.{eqb-true}
+use Rattle.laws.specs.Choice.{if_then_else_, every}
+use Rattle.laws.proofs.Choice.{clash, if-ind, or-cases, every-at}
+use Rattle.number.specs.Number.{worth, digits}
+use Rattle.number.specs.Parts.{tab, lineFeed, split, same}
+use Rattle.number.proofs.Digits.{worth-digits, number-digits, digits-worth, digits-length}
+use Rattle.number.proofs.Parts.{allHigh, high, lacks, high-digits, all-high-lack, join-lacks, split-joined, join-split, same-eq, AllUpTo, join-length}
+use Rattle.table.specs.declared.Kind.{Kind}
+use Rattle.table.specs.declared.Kind.the-variants.{Event, Timed}
+use Rattle.table.specs.declared.Level.{Level}
+use Rattle.table.specs.declared.Level.the-variants.{LO, MI, HI}
+use Rattle.text.specs.declared.Times.{Times}
+use Rattle.text.specs.declared.Line.{Line}
+use Rattle.text.specs.declared.Line.the-variants.{OfTick, OfServer, OfTask, Malformed}
+use Rattle.text.specs.Words.{tickWord, serverWord, taskWord, eventWord, timedWord, loWord, miWord, hiWord, isKind, kindOf, kindWord, isLevel, levelOf, levelWord}
+use Rattle.text.specs.Line.{fieldAt, tickForm, serverForm, taskForm, microsAt, serverSaid, taskSaid, lineOf, readLine, timesFields, fieldsOf, writeLine}
+
+-- A line that has a text: it has a form, and each number has at most 11 digits.
+abbrev pub Short : ℕ → Type 0
+Short n = n < 100000000000
+
+abbrev pub ShortTimes : Times → Type 0
+ShortTimes x = Short (x .n .0) × Short (x .d1 .0) × Short (x .d2 .0)
+
+abbrev pub Writable : Line → Type 0
+Writable (OfTick t) = Short (t .0)
+Writable (OfServer s) = Short (s .partition) × Short (s .priority) × Short (s .period .0) × ShortTimes (s .capacity)
+Writable (OfTask k) = Short (k .home) × Short (k .degraded) × Short (k .priority) × ShortTimes (k .limit)
+Writable Malformed = ⊥
+
+abbrev pub Formed : Line → Type 0
+Formed (OfTick t) = Unit {0}
+Formed (OfServer s) = Unit {0}
+Formed (OfTask k) = Unit {0}
+Formed Malformed = ⊥
+
+-- words: a kind and a level come back from theirs
+kind-word : (k : Kind) → isKind (kindWord k) ≡ true
+unfolding eventWord timedWord same
+kind-word Event = refl
+kind-word Timed = refl
+
+kind-back : (k : Kind) → kindOf (kindWord k) ≡ k
+unfolding eventWord timedWord same
+kind-back Event = refl
+kind-back Timed = refl
+
+word-kind : (w : List ℕ) → isKind w ≡ true → kindWord (kindOf w) ≡ w
+word-kind w e = go (same w timedWord) refl
+  where
+    event : same w timedWord ≡ false → (same w eventWord ≡ true) ⊎ (same w timedWord ≡ true) → eventWord ≡ w
+    event f (inl q) = sym (same-eq w eventWord q)
+    event f (inr q) = absurd (clash (same w timedWord) q f)
+
+    go : (b : Bool) → same w timedWord ≡ b → kindWord (kindOf w) ≡ w
+    go true q = rw q (sym (same-eq w timedWord q))
+    go false q = rw q (event q (or-cases (same w eventWord) (same w timedWord) e))
+
+level-word : (x : Level) → isLevel (levelWord x) ≡ true
+unfolding loWord miWord hiWord same
+level-word LO = refl
+level-word MI = refl
+level-word HI = refl
+
+level-back : (x : Level) → levelOf (levelWord x) ≡ x
+unfolding loWord miWord hiWord same
+level-back LO = refl
+level-back MI = refl
+level-back HI = refl
+
+word-level : (w : List ℕ) → isLevel w ≡ true → levelWord (levelOf w) ≡ w
+word-level w e = go (same w hiWord) refl
+  where
+    lo : same w hiWord ≡ false → same w miWord ≡ false →
+        (same w loWord ≡ true) ⊎ ((same w miWord || same w hiWord) ≡ true) → loWord ≡ w
+    lo f g (inl q) = sym (same-eq w loWord q)
+    lo f g (inr q) = absurd (clash (same w miWord || same w hiWord) q (rw (f, g)))
+
+    mi : (b : Bool) → same w miWord ≡ b → same w hiWord ≡ false → levelWord (if b then MI else LO) ≡ w
+    mi true q f = sym (same-eq w miWord q)
+    mi false q f = lo f q (or-cases (same w loWord) (same w miWord || same w hiWord) e)
+
+    go : (b : Bool) → same w hiWord ≡ b → levelWord (levelOf w) ≡ w
+    go true q = rw q (sym (same-eq w hiWord q))
+    go false q = rw q (mi (same w miWord) refl q)
+
+-- words are letters
+tick-high : high tickWord ≡ true
+unfolding tickWord high
+tick-high = refl
+
+server-high : high serverWord ≡ true
+unfolding serverWord high
+server-high = refl
+
+task-high : high taskWord ≡ true
+unfolding taskWord high
+task-high = refl
+
+kind-high : (k : Kind) → high (kindWord k) ≡ true
+unfolding eventWord timedWord high
+kind-high Event = refl
+kind-high Timed = refl
+
+level-high : (x : Level) → high (levelWord x) ≡ true
+unfolding loWord miWord hiWord high
+level-high LO = refl
+level-high MI = refl
+level-high HI = refl
+
+-- what the fields of a line say
+line-of-fields : (l : Line) → Writable l → lineOf (fieldsOf l) ≡ l
+unfolding lineOf fieldsOf tickForm serverForm taskForm every same tickWord serverWord taskWord
+line-of-fields (OfTick t) w = rw (number-digits (t .0) w, worth-digits (t .0))
+line-of-fields (OfServer s) w =
+    rw (
+      number-digits (s .partition) (w .0),
+      kind-word (s .kind),
+      number-digits (s .priority) (w .1),
+      number-digits (s .period .0) (w .2),
+      number-digits (s .capacity .n .0) (w .3 .0),
+      number-digits (s .capacity .d1 .0) (w .3 .1),
+      number-digits (s .capacity .d2 .0) (w .3 .2),
+      worth-digits (s .partition),
+      kind-back (s .kind),
+      worth-digits (s .priority),
+      worth-digits (s .period .0),
+      worth-digits (s .capacity .n .0),
+      worth-digits (s .capacity .d1 .0),
+      worth-digits (s .capacity .d2 .0),
+    )
+line-of-fields (OfTask k) w =
+    rw (
+      number-digits (k .home) (w .0),
+      number-digits (k .degraded) (w .1),
+      number-digits (k .priority) (w .2),
+      level-word (k .level),
+      number-digits (k .limit .n .0) (w .3 .0),
+      number-digits (k .limit .d1 .0) (w .3 .1),
+      number-digits (k .limit .d2 .0) (w .3 .2),
+      worth-digits (k .home),
+      worth-digits (k .degraded),
+      worth-digits (k .priority),
+      level-back (k .level),
+      worth-digits (k .limit .n .0),
+      worth-digits (k .limit .d1 .0),
+      worth-digits (k .limit .d2 .0),
+    )
+line-of-fields Malformed w = absurd w
+
+-- each field is at least `0` byte by byte, so a line's text has no line feed, and tabs only between fields
+fields-high : (l : Line) → allHigh (fieldsOf l) ≡ true
+unfolding fieldsOf allHigh
+fields-high (OfTick t) = rw (tick-high, high-digits (t .0))
+fields-high (OfServer s) =
+    rw (
+      server-high,
+      high-digits (s .partition),
+      kind-high (s .kind),
+      high-digits (s .priority),
+      high-digits (s .period .0),
+      high-digits (s .capacity .n .0),
+      high-digits (s .capacity .d1 .0),
+      high-digits (s .capacity .d2 .0),
+    )
+fields-high (OfTask k) =
+    rw (
+      task-high,
+      high-digits (k .home),
+      high-digits (k .degraded),
+      high-digits (k .priority),
+      level-high (k .level),
+      high-digits (k .limit .n .0),
+      high-digits (k .limit .d1 .0),
+      high-digits (k .limit .d2 .0),
+    )
+fields-high Malformed = refl
+
+fields-some : (l : Line) → Writable l → 0 < length (fieldsOf l)
+unfolding fieldsOf
+fields-some (OfTick t) w = omega arith
+fields-some (OfServer s) w = omega arith
+fields-some (OfTask k) w = omega arith
+fields-some Malformed w = absurd w
+
+pub line-lacks : (l : Line) → lacks lineFeed (writeLine l) ≡ true
+unfolding writeLine
+line-lacks l =
+    join-lacks lineFeed tab (fieldsOf l) refl (all-high-lack lineFeed (fieldsOf l) (omega arith) (fields-high l))
+
+-- what is written is read
+pub read-write-line : (l : Line) → Writable l → readLine (writeLine l) ≡ l
+unfolding readLine writeLine
+read-write-line l w =
+    rw (split-joined tab (fieldsOf l) (fields-some l w) (all-high-lack tab (fieldsOf l) (omega arith) (fields-high l)))
+    (line-of-fields l w)
+
+-- what a line may be, by its fields
+line-ind : (P : Line → Type 0) (fs : List (List ℕ)) → (every (tickForm fs) ≡ true → P (OfTick (microsAt fs 1))) →
+    (every (serverForm fs) ≡ true → P (OfServer (serverSaid fs))) →
+    (every (taskForm fs) ≡ true → P (OfTask (taskSaid fs))) → P Malformed → P (lineOf fs)
+unfolding lineOf
+line-ind P fs f g h m =
+    if-ind P (every (tickForm fs)) f
+    (λ a. if-ind P (every (serverForm fs)) g (λ b. if-ind P (every (taskForm fs)) h (λ c. m)))
+
+-- a list by its places
+column : {A : Type 0} → ℕ → (ℕ → A) → List A
+column zero f = []
+column (suc n) f = f 0 ∷ column n (λ k. f (suc k))
+
+listed : {A : Type 0} (xs : List A) (d : A) (n : ℕ) → length xs ≡ n → column n (λ k. getD xs k d) ≡ xs
+unfolding column
+listed [] d zero e = refl
+listed [] d (suc n) e = absurd (omega arith)
+listed (x ∷ xs) d zero e = absurd (omega arith)
+listed (x ∷ xs) d (suc n) e = ap (λ ys. x ∷ ys) (listed xs d n (omega arith))
+
+fields-of-line : (fs : List (List ℕ)) → Formed (lineOf fs) → fieldsOf (lineOf fs) ≡ fs
+unfolding fieldsOf tickForm serverForm taskForm column
+fields-of-line fs = line-ind (λ l. Formed l → fieldsOf l ≡ fs) fs tick server task (λ f. absurd f)
+  where
+    at : ℕ → List ℕ
+    at = fieldAt fs
+
+    tick : every (tickForm fs) ≡ true → Unit {0} → (tickWord ∷ digits (worth (fieldAt fs 1)) ∷ []) ≡ fs
+    tick e u =
+        let t = every-at (tickForm fs) e in
+        rw (digits-worth (fieldAt fs 1) (t 2), ← same-eq (fieldAt fs 0) tickWord (t 1))
+        (listed fs [] 2 (eqb-true (length fs) 2 (t 0)))
+
+    server : every (serverForm fs) ≡ true → Unit {0} → fieldsOf (OfServer (serverSaid fs)) ≡ fs
+    server e u =
+        let t = every-at (serverForm fs) e in
+        rw (
+          ← same-eq (fieldAt fs 0) serverWord (t 1),
+          digits-worth (fieldAt fs 1) (t 2),
+          word-kind (fieldAt fs 2) (t 3),
+          digits-worth (fieldAt fs 3) (t 4),
+          digits-worth (fieldAt fs 4) (t 5),
+          digits-worth (fieldAt fs 5) (t 6),
+          digits-worth (fieldAt fs 6) (t 7),
+          digits-worth (fieldAt fs 7) (t 8),
+        )
+        (listed fs [] 8 (eqb-true (length fs) 8 (t 0)))
+
+    task : every (taskForm fs) ≡ true → Unit {0} → fieldsOf (OfTask (taskSaid fs)) ≡ fs
+    task e u =
+        let t = every-at (taskForm fs) e in
+        rw (
+          ← same-eq (fieldAt fs 0) taskWord (t 1),
+          digits-worth (fieldAt fs 1) (t 2),
+          digits-worth (fieldAt fs 2) (t 3),
+          digits-worth (fieldAt fs 3) (t 4),
+          word-level (fieldAt fs 4) (t 5),
+          digits-worth (fieldAt fs 5) (t 6),
+          digits-worth (fieldAt fs 6) (t 7),
+          digits-worth (fieldAt fs 7) (t 8),
+        )
+        (listed fs [] 8 (eqb-true (length fs) 8 (t 0)))
+
+-- what is read of a line that has a form is written as it stands
+pub write-read-line : (l : List ℕ) → Formed (readLine l) → writeLine (readLine l) ≡ l
+unfolding readLine writeLine
+write-read-line l f = rw (fields-of-line (split tab l) f) (join-split tab l)
+
+-- how long a line is
+pub short-digits : (n : ℕ) → Short n → length (digits n) ≤ 11
+short-digits n h = digits-length n 10 (omega arith)
+
+kind-length : (k : Kind) → length (kindWord k) ≤ 11
+unfolding eventWord timedWord
+kind-length Event = omega arith
+kind-length Timed = omega arith
+
+level-length : (x : Level) → length (levelWord x) ≤ 11
+unfolding loWord miWord hiWord
+level-length LO = omega arith
+level-length MI = omega arith
+level-length HI = omega arith
+
+times-length : (x : Times) → ShortTimes x → AllUpTo 11 (timesFields x)
+times-length x w = (short-digits (x .n .0) (w .0), (short-digits (x .d1 .0) (w .1), (short-digits (x .d2 .0) (w .2), tt)))
+
+fields-length : (l : Line) → Writable l → AllUpTo 11 (fieldsOf l)
+unfolding fieldsOf tickWord serverWord taskWord
+fields-length (OfTick t) w = (omega arith, (short-digits (t .0) w, tt))
+fields-length (OfServer s) w = (
+  omega arith,
+  (
+    short-digits (s .partition) (w .0),
+    (
+      kind-length (s .kind),
+      (
+        short-digits (s .priority) (w .1),
+        (short-digits (s .period .0) (w .2), times-length (s .capacity) (w .3)),
+      ),
+    ),
+  ),
+)
+fields-length (OfTask k) w = (
+  omega arith,
+  (
+    short-digits (k .home) (w .0),
+    (
+      short-digits (k .degraded) (w .1),
+      (
+        short-digits (k .priority) (w .2),
+        (level-length (k .level), times-length (k .limit) (w .3)),
+      ),
+    ),
+  ),
+)
+fields-length Malformed w = absurd w
+
+fields-many : (l : Line) → length (fieldsOf l) ≤ 8
+unfolding fieldsOf
+fields-many (OfTick t) = omega arith
+fields-many (OfServer s) = omega arith
+fields-many (OfTask k) = omega arith
+fields-many Malformed = omega arith
+
+pub line-length : (l : Line) → Writable l → length (writeLine l) ≤ 96
+unfolding writeLine
+line-length l w = omega (arith, join-length tab 11 (fieldsOf l) (fields-length l w), fields-many l)

@@ -1,0 +1,6 @@
+pub mod Words
+pub mod Line
+pub mod Judge
+pub mod Read
+pub mod Write
+pub mod Ready

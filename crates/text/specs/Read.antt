@@ -1,0 +1,93 @@
+-- 01, Numbers for no: what the reader answers. "Reading: length first; then line by line 1, 2, 3, 4; then 5 for the first pair of server
+-- rows with equal priority, smaller row first (pairs ordered by it, then by the larger row), then the same for tasks."
+use mathlib.Core.Bool.{Bool, true, false, not}
+use mathlib.Core.List.{List, [], _∷_}
+use Prim.Native.Nat.{ℕ, _+_}
+use lib.Dec.{leb}
+use lib.ListN.{length, getD}
+use Rattle.laws.specs.Choice.{unless_say_else_}
+use Rattle.number.specs.Parts.{lineFeed, split}
+use Rattle.table.specs.declared.Pair.{Pair}
+use Rattle.table.specs.declared.Pair.the-variants.{Equal as EqualRows, Differ}
+use Rattle.table.specs.declared.Table.{Table}
+use Rattle.table.specs.declared.Refusal.{Refusal}
+use Rattle.table.specs.declared.Refusal.the-variants.{Malformed, OutOfBounds, EqualPriorities}
+use Rattle.table.specs.Refusals.{numberOf}
+use Rattle.table.specs.Pairs.{firstPair}
+use Rattle.table.specs.Rows.{Rows, noRows, tableOf, noServer, noTask}
+use Rattle.text.specs.declared.Judged.{Judged}
+use Rattle.text.specs.declared.Judged.the-variants.{Kept, Broken}
+use Rattle.text.specs.declared.Reading.{Reading}
+use Rattle.text.specs.declared.Reading.the-variants.{Taken, Refused, Equal}
+use Rattle.text.specs.declared.Read.{Read}
+use Rattle.text.specs.Line.{readLine}
+use Rattle.text.specs.Judge.{isNil, judge, grown}
+
+-- The paper's number of each answer, 0 where the text is taken, and what comes back with it: "line", "both lines".
+abbrev pub readingNumber : Reading → ℕ
+readingNumber Taken = 0
+readingNumber (Refused why line) = numberOf why
+readingNumber (Equal first second) = numberOf EqualPriorities
+
+abbrev pub readingLines : Reading → List ℕ
+readingLines Taken = []
+readingLines (Refused why line) = line ∷ []
+readingLines (Equal first second) = first ∷ second ∷ []
+
+-- The answer, and the rows of a text that is taken.
+pub record ReadRows : Type 0 where
+  pub answer : Reading
+  pub rows : Rows
+
+abbrev pub taken : Rows → ReadRows
+taken a = record { answer = Taken; rows = a }
+
+abbrev pub refused : Refusal → ℕ → ReadRows
+refused why line = record { answer = Refused why line; rows = noRows }
+
+abbrev pub equal : ℕ → ℕ → ReadRows
+equal first second = record { answer = Equal first second; rows = noRows }
+
+-- 5, "equal priorities", "both lines". "Rows count from 0 within their kind, lines from 1": row 0 stands on line `top`. Where no two are
+-- equal, r is said.
+abbrev pub pairSaid : ℕ → Pair → ReadRows → ReadRows
+pairSaid top (EqualRows i j) r = equal (top + i) (top + j)
+pairSaid top Differ r = r
+
+abbrev pub equalServers : Rows → Pair
+equalServers a = firstPair (length (a .servers)) (λ i. getD (a .servers) i noServer .priority)
+
+abbrev pub equalTasks : Rows → Pair
+equalTasks a = firstPair (length (a .tasks)) (λ k. getD (a .tasks) k noTask .priority)
+
+-- Servers stand below the `tick` line, tasks below the servers. "then the same for tasks"
+unfoldable pub compared : Rows → ReadRows
+compared a =
+    pairSaid 2 (equalServers a) (pairSaid (2 + length (a .servers)) (equalTasks a) (taken a))
+
+-- The text ends before line n. "Empty text is 1 at line 1, a missing line 1 at the line after the last": the last line is a `task` line.
+unfoldable pub ended : ℕ → Rows → ReadRows
+ended n a = unless not (isNil (a .tasks)) say refused Malformed n else compared a
+
+-- The first line that breaks a rule is told. Where line n keeps them, r is said.
+abbrev pub judged : ℕ → Judged → ReadRows → ReadRows
+judged n Kept r = r
+judged n (Broken why) r = refused why n
+
+-- From line n on, a being the rows above it. "an unclosed last line 1 at itself": the last part is what stands after the last line feed.
+-- (There is always a part.)
+unfoldable pub readFrom : ℕ → Rows → List (List ℕ) → ReadRows
+readFrom n a [] = refused Malformed n
+readFrom n a (l ∷ []) = unless isNil l say refused Malformed n else ended n a
+readFrom n a (l ∷ (m ∷ ms)) = judged n (judge n a (readLine l)) (readFrom (n + 1) (grown a (readLine l)) (m ∷ ms))
+
+-- "length first": "The text is at most 16,384 bytes"; "text too long (line 0)"
+unfoldable pub read : List ℕ → ReadRows
+read text = unless leb (length text) 16384 say refused OutOfBounds 0 else readFrom 1 noRows (split lineFeed text)
+
+-- As the reader hands it back. The table beside a refusal has no tick and no rows.
+abbrev pub noTable : Table
+noTable = tableOf noRows
+
+unfoldable pub shown : ReadRows → Read
+shown r = record { answer = r .answer; table = tableOf (r .rows) }
