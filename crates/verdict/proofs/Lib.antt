@@ -1,0 +1,4 @@
+pub mod Demand
+pub mod Interference
+pub mod Least
+pub mod Verdicts

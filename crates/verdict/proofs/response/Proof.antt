@@ -1,0 +1,63 @@
+-- `verdict::response` meets its contract: without capacity it is 0, else what the climb finds. Assumes nothing.
+use mathlib.Core.Path.{sym, _∙_}
+use Prim.Native.Nat.{_≤_}
+use native.Mathlib.Omega.{arith}
+use lib.ListN.{length-map}
+use borrow.Author.Needs.{needs}
+use Rattle.table.specs.Parts.{Sized}
+use Rattle.table.proofs.Rules.{table-rules}
+use Rattle.verdict.proofs.Least.{response-zero, response-else}
+use Rattle.verdict.proofs.response.Statement.{statement}
+use Rattle.verdict.proofs.response.Tie as tie
+
+size : (c : tie.Start) → Sized (c .args .t1)
+size c =
+    record {
+      servers = sym (length-map (c .args .t1 .servers) _) ∙ c .good .0 .1 .1 .1 .1 .1 .0 .1 .0 .1;
+      tasks = sym (length-map (c .args .t1 .tasks) _) ∙ c .good .0 .1 .1 .1 .1 .1 .1 .0 .1 .0 .1;
+    }
+
+few : (c : tie.Start) → c .args .t1 .nservers ≤ 32
+few c = table-rules (c .args .t1) (size c) (c .pre .0) .servers-high
+
+mul-s : tie.Need-mul-s
+mul-s c = omega (arith, few c)
+
+element-copy-out-s : tie.Need-element-copy-out-s
+element-copy-out-s c = omega (arith, few c)
+
+in-mode-requires : tie.Need-in-mode-requires
+in-mode-requires c κs = search needs
+
+returns : tie.Need-returns
+returns c =
+    let a = c .before .before .before .before .args in
+    response-zero (a .t1) (a .m) (a .row) (c .before .in-mode .result) (c .before .in-mode .ensures) (c .if1 .taken)
+
+wide-requires : tie.Need-wide-requires
+wide-requires c κs = search needs
+
+wide-requires-2 : tie.Need-wide-requires-2
+wide-requires-2 c κs = search needs
+
+climb-requires : tie.Need-climb-requires
+climb-requires c κs = search needs
+
+returns-2 : tie.Need-returns-2
+returns-2 c =
+    let a = c .before .before .before .before .before .before .before .args in
+    let d = c .before .before .before .before in
+    response-else (a .t1) (a .m) (a .row) (d .in-mode .result) (c .climb .result) (d .in-mode .ensures) (c .before .before .before .if1 .left) (c .climb .ensures)
+
+pub response-spec : {M : Type 1} → statement M
+response-spec =
+    tie.close
+    (tie.spec
+    mul-s
+    element-copy-out-s
+    in-mode-requires
+    returns
+    wide-requires
+    wide-requires-2
+    climb-requires
+    returns-2)
