@@ -1,0 +1,10 @@
+pub mod Taken
+pub mod Shape
+pub mod Tick
+pub mod Sound
+pub mod Judge
+pub mod Steps
+pub mod Kept
+pub mod Refused
+pub mod Jobs
+pub mod Reader

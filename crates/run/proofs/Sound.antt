@@ -1,0 +1,291 @@
+-- What it says that a run is sound, clause by clause, as plain facts of its rows and counts; and back: from the
+-- facts, that it is sound. So 13 is answered exactly where one of these facts is broken. Assumes nothing.
+use mathlib.Core.Path.{_≡_, refl}
+use mathlib.Core.Bool.{Bool, true, false, not, _&&_, _||_}
+use mathlib.Core.List.{[], _∷_}
+use mathlib.Core.Logic.{_⊎_, inl, inr, _↔_}
+use Prim.Native.Nat.{ℕ, _≤_, _<_}
+use native.Mathlib.Omega.{arith}
+use lib.Dec.{leb, ltb, eqb}
+use borrow.Author.Tests.{ltb-true, ltb-false, leb-true, eqb-true, lt-ltb, le-ltb, le-leb, eq-eqb, not-true}
+use Rattle.laws.specs.Choice.{every}
+use Rattle.laws.specs.Rows.{allBelow, sumBelow}
+use Rattle.laws.proofs.Choice.{clash, true-or-false, and-true, and-left, and-right, or-cases, or-true-left, or-true-right, every-at}
+use Rattle.laws.proofs.Rows.{all-at, all-build}
+use Rattle.table.specs.declared.Table.{Table}
+use Rattle.table.specs.Rows.{serverAt, taskAt, periodAt, limitAt, isLow}
+use Rattle.table.specs.Rules.{tableKeeps}
+use Rattle.run.specs.declared.Last.{Last}
+use Rattle.run.specs.declared.Last.the-variants.{NoJob, Job}
+use Rattle.run.specs.declared.State.{State}
+use Rattle.run.specs.declared.Run.{Run}
+use Rattle.run.specs.State.{usedAt, elapsedAt, waitingAt, runsAt, taskWaits}
+use Rattle.run.specs.Sound.{largest, soundServer, isLast, isD2, soundFront, soundTask, soundLast, soundCounts, soundState, sound}
+
+-- a server's row
+pub record ServerSound (t : Table) (s : State) (i : ℕ) : Type 0 where
+  pub elapsed : elapsedAt s i ≤ periodAt t i
+  pub used : usedAt s i ≤ elapsedAt s i
+  pub room : usedAt s i ≤ largest (serverAt t i .capacity)
+
+-- a task's row: its front job, if there is one, has not reached its limit, but for the last-run job
+pub record TaskSound (t : Table) (s : State) (k : ℕ) : Type 0 where
+  pub queue : waitingAt s k ≤ 16
+  pub none : waitingAt s k ≡ 0 → runsAt s k ≡ 0
+  pub front : 0 < waitingAt s k →
+      (runsAt s k < limitAt t (s .mode) k) ⊎ ((isLast (s .last) k ≡ true) × (runsAt s k ≡ limitAt t (s .mode) k))
+  pub low : isD2 (s .mode) ≡ true → isLow (taskAt t k .level) ≡ true → waitingAt s k ≡ 0
+
+-- the last-run task
+pub record JobSound (t : Table) (s : State) (k : ℕ) : Type 0 where
+  pub below : k < t .ntasks
+  pub waits : 0 < waitingAt s k
+  pub ran : 1 ≤ runsAt s k
+  pub tick : 1 ≤ s .ticks
+
+abbrev pub LastSound : Table → State → Last → Type 0
+LastSound t s NoJob = Unit {0}
+LastSound t s (Job k) = JobSound t s k
+
+pub record CountsSound (t : Table) (s : State) : Type 0 where
+  pub ticks : s .ticks ≤ 4000000000
+  pub accepted : s .accepted ≤ 4000000000
+  pub waiting : sumBelow (t .ntasks) (waitingAt s) ≤ s .accepted
+
+pub record StateSound (t : Table) (s : State) : Type 0 where
+  pub servers : (i : ℕ) → i < t .nservers → ServerSound t s i
+  pub tasks : (k : ℕ) → k < t .ntasks → TaskSound t s k
+  pub last : LastSound t s (s .last)
+  pub counts : CountsSound t s
+
+-- From the tests to the facts.
+server-facts : (t : Table) (s : State) (i : ℕ) → every (soundServer t s i) ≡ true → ServerSound t s i
+unfolding soundServer
+server-facts t s i e =
+    let at = every-at (soundServer t s i) e in
+    record {
+      elapsed = leb-true (elapsedAt s i) (periodAt t i) (at 0);
+      used = leb-true (usedAt s i) (elapsedAt s i) (at 1);
+      room = leb-true (usedAt s i) (largest (serverAt t i .capacity)) (at 2);
+    }
+
+front-none : (t : Table) (s : State) (k : ℕ) → soundFront t s k ≡ true → waitingAt s k ≡ 0 → runsAt s k ≡ 0
+unfolding soundFront
+front-none t s k e z = eqb-true (runsAt s k) 0 (rw (le-ltb 0 (waitingAt s k) (omega arith)) at e)
+
+front-some : (t : Table) (s : State) (k : ℕ) → soundFront t s k ≡ true → 0 < waitingAt s k →
+    (runsAt s k < limitAt t (s .mode) k) ⊎ ((isLast (s .last) k ≡ true) × (runsAt s k ≡ limitAt t (s .mode) k))
+unfolding soundFront
+front-some t s k e w =
+    go (or-cases below (last && at) (rw (lt-ltb 0 (waitingAt s k) w) at e))
+  where
+    below : Bool
+    below = ltb (runsAt s k) (limitAt t (s .mode) k)
+
+    last : Bool
+    last = isLast (s .last) k
+
+    at : Bool
+    at = eqb (runsAt s k) (limitAt t (s .mode) k)
+
+    go : (below ≡ true) ⊎ ((last && at) ≡ true) →
+        (runsAt s k < limitAt t (s .mode) k) ⊎ ((isLast (s .last) k ≡ true) × (runsAt s k ≡ limitAt t (s .mode) k))
+    go (inl p) = inl (ltb-true (runsAt s k) (limitAt t (s .mode) k) p)
+    go (inr q) = inr (and-left last at q, eqb-true (runsAt s k) (limitAt t (s .mode) k) (and-right last at q))
+
+low-none : (d l w : Bool) → not (d && (l && w)) ≡ true → d ≡ true → l ≡ true → w ≡ false
+low-none d l w e p q = not-true w (rw (p, q) at e)
+
+task-facts : (t : Table) (s : State) (k : ℕ) → every (soundTask t s k) ≡ true → TaskSound t s k
+unfolding soundTask
+task-facts t s k e =
+    let at = every-at (soundTask t s k) e in
+    record {
+      queue = leb-true (waitingAt s k) 16 (at 0);
+      none = front-none t s k (at 1);
+      front = front-some t s k (at 1);
+      low =
+          λ d l.
+          let z = low-none (isD2 (s .mode)) (isLow (taskAt t k .level)) (taskWaits s k) (at 2) d l in
+          omega (arith, ltb-false 0 (waitingAt s k) z);
+    }
+
+last-facts : (t : Table) (s : State) (l : Last) → soundLast t s l ≡ true → LastSound t s l
+unfolding soundLast
+last-facts t s NoJob e = tt
+last-facts t s (Job k) e =
+    let at = every-at (ltb k (t .ntasks) ∷ taskWaits s k ∷ leb 1 (runsAt s k) ∷ leb 1 (s .ticks) ∷ []) e in
+    record {
+      below = ltb-true k (t .ntasks) (at 0);
+      waits = ltb-true 0 (waitingAt s k) (at 1);
+      ran = leb-true 1 (runsAt s k) (at 2);
+      tick = leb-true 1 (s .ticks) (at 3);
+    }
+
+counts-facts : (t : Table) (s : State) → every (soundCounts t s) ≡ true → CountsSound t s
+unfolding soundCounts
+counts-facts t s e =
+    let at = every-at (soundCounts t s) e in
+    record {
+      ticks = leb-true (s .ticks) 4000000000 (at 0);
+      accepted = leb-true (s .accepted) 4000000000 (at 1);
+      waiting = leb-true (sumBelow (t .ntasks) (waitingAt s)) (s .accepted) (at 2);
+    }
+
+pub state-facts : (t : Table) (s : State) → soundState t s ≡ true → StateSound t s
+unfolding soundState every
+state-facts t s e =
+    let servers : Bool = allBelow (t .nservers) (λ i. every (soundServer t s i)) in
+    let tasks : Bool = allBelow (t .ntasks) (λ k. every (soundTask t s k)) in
+    let last : Bool = soundLast t s (s .last) in
+    let counts : Bool = every (soundCounts t s) in
+    let e2 = and-right servers (tasks && (last && (counts && true))) e in
+    let e3 = and-right tasks (last && (counts && true)) e2 in
+    let e4 = and-right last (counts && true) e3 in
+    record {
+      servers =
+          λ i h.
+          server-facts t s i
+          (all-at (λ i. every (soundServer t s i)) (t .nservers) i
+          (and-left servers (tasks && (last && (counts && true))) e) h);
+      tasks =
+          λ k h.
+          task-facts t s k
+          (all-at (λ k. every (soundTask t s k)) (t .ntasks) k (and-left tasks (last && (counts && true)) e2) h);
+      last = last-facts t s (s .last) (and-left last (counts && true) e3);
+      counts = counts-facts t s (and-left counts true e4);
+    }
+
+-- From the facts to the tests.
+all-three : (a b c : Bool) → a ≡ true → b ≡ true → c ≡ true → (a && (b && (c && true))) ≡ true
+all-three a b c p q r = rw (p, q, r)
+
+server-tests : (t : Table) (s : State) (i : ℕ) → ServerSound t s i → every (soundServer t s i) ≡ true
+unfolding soundServer every
+server-tests t s i f =
+    all-three
+    (leb (elapsedAt s i) (periodAt t i))
+    (leb (usedAt s i) (elapsedAt s i))
+    (leb (usedAt s i) (largest (serverAt t i .capacity)))
+    (le-leb (elapsedAt s i) (periodAt t i) (f .elapsed))
+    (le-leb (usedAt s i) (elapsedAt s i) (f .used))
+    (le-leb (usedAt s i) (largest (serverAt t i .capacity)) (f .room))
+
+front-test : (t : Table) (s : State) (k : ℕ) → TaskSound t s k → soundFront t s k ≡ true
+unfolding soundFront
+front-test t s k f = go (taskWaits s k) refl
+  where
+    below : Bool
+    below = ltb (runsAt s k) (limitAt t (s .mode) k)
+
+    last : Bool
+    last = isLast (s .last) k
+
+    at : Bool
+    at = eqb (runsAt s k) (limitAt t (s .mode) k)
+
+    some : (runsAt s k < limitAt t (s .mode) k) ⊎ ((last ≡ true) × (runsAt s k ≡ limitAt t (s .mode) k)) →
+        (below || (last && at)) ≡ true
+    some (inl p) = or-true-left below (last && at) (lt-ltb (runsAt s k) (limitAt t (s .mode) k) p)
+    some (inr q) =
+        or-true-right below (last && at)
+        (and-true last at (q .0) (eq-eqb (runsAt s k) (limitAt t (s .mode) k) (q .1)))
+
+    go : (w : Bool) → taskWaits s k ≡ w → soundFront t s k ≡ true
+    go true e = rw (e, soundFront) (some (f .front (ltb-true 0 (waitingAt s k) e)))
+    go false e =
+        rw
+        (e, soundFront)
+        (eq-eqb (runsAt s k) 0 (f .none (omega (arith, ltb-false 0 (waitingAt s k) e))))
+
+low-test : (d l w : Bool) → (d ≡ true → l ≡ true → w ≡ false) → not (d && (l && w)) ≡ true
+low-test true true w f = rw (f refl refl)
+low-test true false w f = refl
+low-test false l w f = refl
+
+task-tests : (t : Table) (s : State) (k : ℕ) → TaskSound t s k → every (soundTask t s k) ≡ true
+unfolding soundTask every
+task-tests t s k f =
+    all-three
+    (leb (waitingAt s k) 16)
+    (soundFront t s k)
+    (not (isD2 (s .mode) && (isLow (taskAt t k .level) && taskWaits s k)))
+    (le-leb (waitingAt s k) 16 (f .queue))
+    (front-test t s k f)
+    (low-test
+    (isD2 (s .mode))
+    (isLow (taskAt t k .level))
+    (taskWaits s k)
+    (λ d l. le-ltb 0 (waitingAt s k) (omega (arith, f .low d l))))
+
+last-test : (t : Table) (s : State) (l : Last) → LastSound t s l → soundLast t s l ≡ true
+unfolding soundLast every
+last-test t s NoJob f = refl
+last-test t s (Job k) f =
+    and-true
+    (ltb k (t .ntasks))
+    (taskWaits s k && (leb 1 (runsAt s k) && (leb 1 (s .ticks) && true)))
+    (lt-ltb k (t .ntasks) (f .below))
+    (all-three
+    (taskWaits s k)
+    (leb 1 (runsAt s k))
+    (leb 1 (s .ticks))
+    (lt-ltb 0 (waitingAt s k) (f .waits))
+    (le-leb 1 (runsAt s k) (f .ran))
+    (le-leb 1 (s .ticks) (f .tick)))
+
+counts-tests : (t : Table) (s : State) → CountsSound t s → every (soundCounts t s) ≡ true
+unfolding soundCounts every
+counts-tests t s f =
+    all-three
+    (leb (s .ticks) 4000000000)
+    (leb (s .accepted) 4000000000)
+    (leb (sumBelow (t .ntasks) (waitingAt s)) (s .accepted))
+    (le-leb (s .ticks) 4000000000 (f .ticks))
+    (le-leb (s .accepted) 4000000000 (f .accepted))
+    (le-leb (sumBelow (t .ntasks) (waitingAt s)) (s .accepted) (f .waiting))
+
+pub state-tests : (t : Table) (s : State) → StateSound t s → soundState t s ≡ true
+unfolding soundState every
+state-tests t s f =
+    let servers : Bool = allBelow (t .nservers) (λ i. every (soundServer t s i)) in
+    let tasks : Bool = allBelow (t .ntasks) (λ k. every (soundTask t s k)) in
+    let last : Bool = soundLast t s (s .last) in
+    let counts : Bool = every (soundCounts t s) in
+    and-true
+    servers
+    (tasks && (last && (counts && true)))
+    (all-build (λ i. every (soundServer t s i)) (t .nservers) (λ i h. server-tests t s i (f .servers i h)))
+    (all-three
+    tasks
+    last
+    counts
+    (all-build (λ k. every (soundTask t s k)) (t .ntasks) (λ k h. task-tests t s k (f .tasks k h)))
+    (last-test t s (s .last) (f .last))
+    (counts-tests t s (f .counts)))
+
+-- A run is sound exactly if its table keeps the rules and its state the clauses.
+pub sound-table : (r : Run) → sound r ≡ true → tableKeeps (r .table) ≡ true
+unfolding sound
+sound-table r e = and-left (tableKeeps (r .table)) (soundState (r .table) (r .state)) e
+
+pub sound-state : (r : Run) → sound r ≡ true → StateSound (r .table) (r .state)
+unfolding sound
+sound-state r e =
+    state-facts (r .table) (r .state) (and-right (tableKeeps (r .table)) (soundState (r .table) (r .state)) e)
+
+pub sound-build : (r : Run) → tableKeeps (r .table) ≡ true → StateSound (r .table) (r .state) → sound r ≡ true
+unfolding sound
+sound-build r e f =
+    and-true (tableKeeps (r .table)) (soundState (r .table) (r .state)) e (state-tests (r .table) (r .state) f)
+
+pub sound-exactly : (r : Run) → (sound r ≡ true) ↔ ((tableKeeps (r .table) ≡ true) × StateSound (r .table) (r .state))
+sound-exactly r = (λ e. (sound-table r e, sound-state r e), λ p. sound-build r (p .0) (p .1))
+
+-- and unsound, which 13 tells, exactly if one of them is broken
+pub unsound-exactly : (r : Run) →
+    (sound r ≡ false) ↔ ((tableKeeps (r .table) ≡ true) × StateSound (r .table) (r .state) → ⊥)
+unsound-exactly r = (
+  λ e p. clash (sound r) (sound-build r (p .0) (p .1)) e,
+  λ n. elim (true-or-false (sound r)) [ inl e ↦ absurd (n (sound-exactly r .0 e)) | inr e ↦ e ],
+)

@@ -1,0 +1,354 @@
+-- The tasks' rows through a tick. Steps 1 to 3 only take jobs away, each counted; after them no job is at its limit,
+-- and no LO job waits in D2. Steps 4 to 7 leave the queues alone but for the run count of the job that runs. Assumes
+-- nothing.
+use mathlib.Core.Path.{_≡_, refl, ap, sym, subst, _∙_}
+use mathlib.Core.Bool.{Bool, true, false, not}
+use mathlib.Core.List.{List}
+use mathlib.Core.Logic.{_⊎_, inl, inr}
+use Prim.Native.Nat.{ℕ, zero, suc, _+_, _-_, _≤_, _<_}
+use native.Mathlib.Omega.{arith}
+use lib.Dec.{eqb}
+use lib.ListN.{length, getD, set}
+use lib.Seq.{getD-set-same, getD-set-other}
+use borrow.Author.Tests.{eqb-true, eqb-false, lt-ltb}
+use Rattle.laws.specs.Choice.{if_then_else_}
+use Rattle.laws.specs.Rows.{sumBelow}
+use Rattle.laws.proofs.Choice.{clash, if-ind, true-or-false}
+use Rattle.laws.proofs.Rows.{any-none, sum-zero}
+use Rattle.laws.proofs.Anew.{anew-at}
+use Rattle.table.specs.declared.Mode.{Mode}
+use Rattle.table.specs.declared.Mode.the-variants.{D2}
+use Rattle.table.specs.declared.Table.{Table}
+use Rattle.table.specs.Rows.{taskAt, limitAt, isLow}
+use Rattle.table.proofs.Rules.{TableRules}
+use Rattle.run.specs.declared.Last.{Last}
+use Rattle.run.specs.declared.Last.the-variants.{NoJob, Job}
+use Rattle.run.specs.declared.State.{State}
+use Rattle.run.specs.State.{waitingAt, runsAt, taskWaits, someWaits, withMode}
+use Rattle.run.specs.Sound.{isD2, isLast}
+use Rattle.run.specs.Answers.{one, ran, finishedBy, cutBy}
+use Rattle.run.specs.Tick.{Judged, Marked, judge, withoutFront, judged, step1, drops, discards, step2, step3, step4, settle, choose, advance, tickTaken}
+use Rattle.run.proofs.Shape.{Shaped, alike-shaped, mode-alike, step1-alike, settle-shaped}
+use Rattle.run.proofs.Sound.{TaskSound, JobSound, LastSound, StateSound}
+use Rattle.run.proofs.Judge.{Rises, JudgedRight, judged-right}
+
+-- limits do not fall
+pub limits-rise : (t : Table) → TableRules t → (k : ℕ) → k < t .ntasks → Rises (taskAt t k .limit)
+limits-rise t rules k l = record { first = rules .task k l .rises; next = rules .task k l .rises-on }
+
+-- a row of a list in which row i was set
+pub set-at : (xs : List ℕ) (i v k : ℕ) → i < length xs → i ≡ k → getD (set xs i v) k 0 ≡ v
+set-at xs i v k l e = rw (← e) (getD-set-same xs i v 0 l)
+
+pub set-past : (xs : List ℕ) (i v k : ℕ) → (i ≡ k → ⊥) → getD (set xs i v) k 0 ≡ getD xs k 0
+set-past xs i v k n = getD-set-other xs i k v 0 (λ e. n (sym e))
+
+pub one-here : (j k : ℕ) → j ≡ k → one j k ≡ 1
+one-here j k e = if-ind (λ (n : ℕ). n ≡ 1) (eqb j k) (λ q. refl) (λ q. absurd (eqb-false j k q e))
+
+pub one-past : (j k : ℕ) → (j ≡ k → ⊥) → one j k ≡ 0
+one-past j k n = if-ind (λ (n : ℕ). n ≡ 0) (eqb j k) (λ q. absurd (n (eqb-true j k q))) (λ q. refl)
+
+pub same-or-not : (j k : ℕ) → (j ≡ k) ⊎ (j ≡ k → ⊥)
+same-or-not j k = elim (true-or-false (eqb j k)) [ inl e ↦ inl (eqb-true j k e) | inr e ↦ inr (eqb-false j k e) ]
+
+-- row k alone counts 1
+pub sum-one : (k n : ℕ) → k < n → sumBelow n (one k) ≡ 1
+unfolding sumBelow
+sum-one k zero l = absurd (omega arith)
+sum-one k (suc n) l = go (same-or-not k n) (sum-one k n)
+  where
+    go : (k ≡ n) ⊎ (k ≡ n → ⊥) → (k < n → sumBelow n (one k) ≡ 1) → sumBelow n (one k) + one k n ≡ 1
+    go (inl e) ih = omega (arith, sum-zero (one k) n (λ j m. one-past k j (λ q. omega arith)), one-here k n e)
+    go (inr d) ih = omega (arith, ih (omega arith), one-past k n d)
+
+-- the front job of task j leaves: of task j one fewer waits, of any other task as many
+pub front-gone : (s : State) (j k : ℕ) → j < length (s .waiting) → 0 < waitingAt s j →
+    waitingAt (withoutFront s j) k + one j k ≡ waitingAt s k
+front-gone s j k l w = go (same-or-not j k)
+  where
+    go : (j ≡ k) ⊎ (j ≡ k → ⊥) → waitingAt (withoutFront s j) k + one j k ≡ waitingAt s k
+    go (inl e) =
+        let q : waitingAt s j ≡ waitingAt s k = ap (waitingAt s) e in
+        omega (arith, set-at (s .waiting) j (waitingAt s j - 1) k l e, one-here j k e)
+    go (inr n) = omega (arith, set-past (s .waiting) j (waitingAt s j - 1) k n, one-past j k n)
+
+-- "Mark 1: that job leaves, finished"; judged, it stays or is cut. Every other queue is as it was.
+judged-waiting : (s : State) (j : ℕ) (v : Judged) (k : ℕ) → j < length (s .waiting) → 0 < waitingAt s j →
+    waitingAt (judged s j v .state) k + (finishedBy (judged s j v .left) k + cutBy (judged s j v .left) k) ≡ waitingAt s k
+judged-waiting s j v k l w =
+    if-ind
+    (λ (m : Marked). waitingAt (m .state) k + (finishedBy (m .left) k + cutBy (m .left) k) ≡ waitingAt s k)
+    (v .cut)
+    (λ e. omega (arith, front-gone (withMode s (v .mode)) j k l w))
+    (λ e. omega arith)
+
+pub step1-waiting : (t : Table) (s : State) (mark : Bool) (l : Last) → t .ntasks ≤ 64 → Shaped s → LastSound t s l →
+    (k : ℕ) →
+    waitingAt (step1 t s mark l .state) k +
+    (finishedBy (step1 t s mark l .left) k + cutBy (step1 t s mark l .left) k) ≡
+    waitingAt s k
+unfolding step1
+step1-waiting t s mark NoJob many h q k = omega arith
+step1-waiting t s true (Job j) many h q k =
+    omega (arith, front-gone s j k (omega (arith, h .waiting, q .below)) (q .waits))
+step1-waiting t s false (Job j) many h q k =
+    judged-waiting s j (judge 3 (taskAt t j) (runsAt s j) (s .mode)) k (omega (arith, h .waiting, q .below)) (q .waits)
+
+-- Step 2: what is discarded of a task and what still waits are what waited.
+pub step2-waiting : (t : Table) (m : Mode) (s : State) → t .ntasks ≤ 64 → Shaped s → (k : ℕ) → k < t .ntasks →
+    waitingAt (step2 t m s) k ≡ (if drops t m s k then 0 else waitingAt s k)
+unfolding step2
+step2-waiting t m s many h k l = anew-at (t .ntasks) _ (s .waiting) k 0 l (omega (arith, h .waiting))
+
+pub step2-runs : (t : Table) (m : Mode) (s : State) → t .ntasks ≤ 64 → Shaped s → (k : ℕ) → k < t .ntasks →
+    runsAt (step2 t m s) k ≡ (if drops t m s k then 0 else runsAt s k)
+unfolding step2
+step2-runs t m s many h k l = anew-at (t .ntasks) _ (s .runs) k 0 l (omega (arith, h .runs))
+
+pub step2-counted : (t : Table) (m : Mode) (s : State) → t .ntasks ≤ 64 → Shaped s → (k : ℕ) → k < t .ntasks →
+    waitingAt (step2 t m s) k + discards t m s k ≡ waitingAt s k
+unfolding discards
+step2-counted t m s many h k l = rw (step2-waiting t m s many h k l) (go (drops t m s k))
+  where
+    go : (b : Bool) → (if b then 0 else waitingAt s k) + (if b then waitingAt s k else 0) ≡ waitingAt s k
+    go true = omega arith
+    go false = omega arith
+
+-- Step 3 changes no queue.
+step3-waiting : (t : Table) (s : State) (k : ℕ) → waitingAt (step3 t s) k ≡ waitingAt s k
+unfolding step3
+step3-waiting t s k = if-ind (λ (z : State). waitingAt z k ≡ waitingAt s k) (someWaits t s) (λ e. refl) (λ e. refl)
+
+pub step3-runs : (t : Table) (s : State) (k : ℕ) → runsAt (step3 t s) k ≡ runsAt s k
+unfolding step3
+step3-runs t s k = if-ind (λ (z : State). runsAt z k ≡ runsAt s k) (someWaits t s) (λ e. refl) (λ e. refl)
+
+-- A task's row as steps 1 to 3 leave it: no front job at its limit.
+pub record JudgedRow (t : Table) (s : State) (k : ℕ) : Type 0 where
+  pub queue : waitingAt s k ≤ 16
+  pub none : waitingAt s k ≡ 0 → runsAt s k ≡ 0
+  pub front : 0 < waitingAt s k → runsAt s k < limitAt t (s .mode) k
+
+-- In a sound state a task that is not the last-run one is below its limit, and the last-run one not beyond it.
+other-below : (t : Table) (s : State) (k : ℕ) → TaskSound t s k → (isLast (s .last) k ≡ true → ⊥) → 0 < waitingAt s k →
+    runsAt s k < limitAt t (s .mode) k
+other-below t s k f n w = go (f .front w)
+  where
+    go : (runsAt s k < limitAt t (s .mode) k) ⊎ ((isLast (s .last) k ≡ true) × (runsAt s k ≡ limitAt t (s .mode) k)) →
+        runsAt s k < limitAt t (s .mode) k
+    go (inl p) = p
+    go (inr q) = absurd (n (q .0))
+
+within-limit : (t : Table) (s : State) (k : ℕ) → TaskSound t s k → 0 < waitingAt s k → runsAt s k ≤ limitAt t (s .mode) k
+within-limit t s k f w = elim (f .front w) [ inl p ↦ omega arith | inr q ↦ omega (arith, q .1) ]
+
+-- the row of the task whose front job left: "the front job's count starts at 0"
+gone-row : (t : Table) (s : State) (j k : ℕ) → Shaped s → j < 64 → j ≡ k → waitingAt s k ≤ 16 → 1 ≤ limitAt t (s .mode) k →
+    JudgedRow t (withoutFront s j) k
+gone-row t s j k h l e q m =
+    let w = set-at (s .waiting) j (waitingAt s j - 1) k (omega (arith, h .waiting)) e in
+    let c = set-at (s .runs) j 0 k (omega (arith, h .runs)) e in
+    let same : waitingAt s j ≡ waitingAt s k = ap (waitingAt s) e in
+    record { queue = omega arith; none = λ z. c; front = λ z. omega arith }
+
+-- the row of another task, in a mode in which its limit is no smaller
+other-row : (t : Table) (s : State) (j k : ℕ) → (j ≡ k → ⊥) → JudgedRow t s k → JudgedRow t (withoutFront s j) k
+other-row t s j k n f =
+    let w = set-past (s .waiting) j (waitingAt s j - 1) k n in
+    let c = set-past (s .runs) j 0 k n in
+    record {
+      queue = omega (arith, f .queue);
+      none = λ z. c ∙ f .none (sym w ∙ z);
+      front = λ z. omega (arith, f .front (omega arith));
+    }
+
+risen-row : (t : Table) (s : State) (m : Mode) (k : ℕ) → TaskSound t s k →
+    (0 < waitingAt s k → runsAt s k < limitAt t m k) → JudgedRow t (withMode s m) k
+risen-row t s m k f b = record { queue = f .queue; none = f .none; front = b }
+
+judged-row : (t : Table) (s : State) (j : ℕ) (v : Judged) → s .last ≡ Job j → TableRules t → Shaped s → j < t .ntasks →
+    JudgedRight (taskAt t j) (runsAt s j) (s .mode) v → (k : ℕ) → k < t .ntasks → TaskSound t s k →
+    JudgedRow t (judged s j v .state) k
+judged-row t s j v last rules h below right k l f = go (same-or-not j k)
+  where
+    up : limitAt t (s .mode) k ≤ limitAt t (v .mode) k
+    up = right .up (taskAt t k .limit) (limits-rise t rules k l)
+
+    other : (j ≡ k → ⊥) → JudgedRow t (withMode s (v .mode)) k
+    other n =
+        risen-row t s (v .mode) k f
+        (λ w. omega (arith, up, other-below t s k f (λ e. n (eqb-true j k (rw last at e))) w))
+
+    go : (j ≡ k) ⊎ (j ≡ k → ⊥) → JudgedRow t (judged s j v .state) k
+    go (inl e) =
+        if-ind
+        (λ (m : Marked). JudgedRow t (m .state) k)
+        (v .cut)
+        (λ c.
+        gone-row t (withMode s (v .mode)) j k
+        (alike-shaped (mode-alike s (v .mode)) h)
+        (omega (arith, rules .tasks-high))
+        e
+        (f .queue)
+        (rules .task k l .limit-low (v .mode)))
+        (λ c. risen-row t s (v .mode) k f (λ w. rw e at (right .stays c)))
+    go (inr n) =
+        if-ind
+        (λ (m : Marked). JudgedRow t (m .state) k)
+        (v .cut)
+        (λ c. other-row t (withMode s (v .mode)) j k n (other n))
+        (λ c. other n)
+
+finished-row : (t : Table) (s : State) (j : ℕ) → s .last ≡ Job j → TableRules t → Shaped s → j < t .ntasks →
+    (k : ℕ) → k < t .ntasks → TaskSound t s k → (j ≡ k) ⊎ (j ≡ k → ⊥) → JudgedRow t (withoutFront s j) k
+finished-row t s j last rules h below k l f (inl e) =
+    gone-row t s j k h (omega (arith, rules .tasks-high)) e (f .queue) (rules .task k l .limit-low (s .mode))
+finished-row t s j last rules h below k l f (inr n) =
+    other-row t s j k n
+    (risen-row t s (s .mode) k f (other-below t s k f (λ e. n (eqb-true j k (rw last at e)))))
+
+pub step1-row : (t : Table) (s : State) (mark : Bool) (l : Last) → s .last ≡ l → TableRules t → Shaped s → StateSound t s →
+    (k : ℕ) → k < t .ntasks → JudgedRow t (step1 t s mark l .state) k
+unfolding step1
+step1-row t s mark NoJob last rules h f k l =
+    risen-row t s (s .mode) k (f .tasks k l)
+    (other-below t s k (f .tasks k l) (λ e. clash false (rw last at e) refl))
+step1-row t s true (Job j) last rules h f k l =
+    finished-row t s j last rules h (subst (LastSound t s) last (f .last) .below) k l (f .tasks k l) (same-or-not j k)
+step1-row t s false (Job j) last rules h f k l =
+    let q : JobSound t s j = subst (LastSound t s) last (f .last) in
+    judged-row t s j (judge 3 (taskAt t j) (runsAt s j) (s .mode)) last rules h (q .below)
+    (judged-right (taskAt t j) (runsAt s j) (s .mode) (limits-rise t rules j (q .below))
+    (within-limit t s j (f .tasks j (q .below)) (q .waits)))
+    k
+    l
+    (f .tasks k l)
+
+-- Step 2: the row of a task whose jobs are discarded is empty, any other stays.
+step2-row : (t : Table) (m : Mode) (s : State) → t .ntasks ≤ 64 → Shaped s → (k : ℕ) → k < t .ntasks → JudgedRow t s k →
+    JudgedRow t (step2 t m s) k
+unfolding step2
+step2-row t m s many h k l f = go (drops t m s k) (step2-waiting t m s many h k l) (step2-runs t m s many h k l)
+  where
+    go : (b : Bool) → waitingAt (step2 t m s) k ≡ (if b then 0 else waitingAt s k) →
+        runsAt (step2 t m s) k ≡ (if b then 0 else runsAt s k) → JudgedRow t (step2 t m s) k
+    go true w c = record { queue = omega arith; none = λ z. c; front = λ z. absurd (omega arith) }
+    go false w c =
+        record {
+          queue = omega (arith, f .queue);
+          none = λ z. c ∙ f .none (sym w ∙ z);
+          front = λ z. omega (arith, f .front (omega arith));
+        }
+
+-- In D2 no LO job waits after it: they were discarded on entering, or there were none.
+step2-low : (t : Table) (m : Mode) (s : State) → t .ntasks ≤ 64 → Shaped s → (k : ℕ) → k < t .ntasks →
+    (isD2 m ≡ true → waitingAt s k ≡ 0) → isD2 (s .mode) ≡ true → isLow (taskAt t k .level) ≡ true →
+    waitingAt (step2 t m s) k ≡ 0
+unfolding drops
+step2-low t m s many h k l before d low =
+    step2-waiting t m s many h k l ∙ go (isD2 m) refl
+  where
+    either : (b : Bool) → waitingAt s k ≡ 0 → (if b then 0 else waitingAt s k) ≡ 0
+    either true e = refl
+    either false e = e
+
+    go : (b : Bool) → isD2 m ≡ b → (if drops t m s k then 0 else waitingAt s k) ≡ 0
+    go true e = either (drops t m s k) (before e)
+    go false e = rw (d, e, low)
+
+pub step2-mode : (t : Table) (m : Mode) (s : State) → step2 t m s .mode ≡ s .mode
+unfolding step2
+step2-mode t m s = refl
+
+-- Step 3: where no job waits, no front job has a limit to be below.
+step3-row : (t : Table) (s : State) (k : ℕ) → k < t .ntasks → JudgedRow t s k → JudgedRow t (step3 t s) k
+unfolding step3 someWaits
+step3-row t s k l f =
+    if-ind
+    (λ (z : State). JudgedRow t z k)
+    (someWaits t s)
+    (λ e. f)
+    (λ e.
+    record {
+      queue = f .queue;
+      none = f .none;
+      front = λ w. absurd (clash (taskWaits s k) (lt-ltb 0 (waitingAt s k) w) (any-none (taskWaits s) (t .ntasks) k e l));
+    })
+
+step3-low : (t : Table) (s : State) (k : ℕ) → (isD2 (s .mode) ≡ true → waitingAt s k ≡ 0) →
+    isD2 (step3 t s .mode) ≡ true → waitingAt (step3 t s) k ≡ 0
+unfolding step3
+step3-low t s k f =
+    if-ind
+    (λ (z : State). isD2 (z .mode) ≡ true → waitingAt z k ≡ 0)
+    (someWaits t s)
+    (λ e. f)
+    (λ e d. absurd (clash false d refl))
+
+-- Step 4 leaves mode and queues alone, so what step 5 finds of the tasks is what steps 1 to 3 left.
+step4-row : (t : Table) (s : State) (k : ℕ) → JudgedRow t s k → JudgedRow t (step4 t s) k
+unfolding step4
+step4-row t s k f = record { queue = f .queue; none = f .none; front = f .front }
+
+step4-low : (t : Table) (s : State) (k : ℕ) → (isD2 (s .mode) ≡ true → waitingAt s k ≡ 0) →
+    isD2 (step4 t s .mode) ≡ true → waitingAt (step4 t s) k ≡ 0
+unfolding step4
+step4-low t s k f = f
+
+module _ (t : Table) (s : State) (mark : Bool) (rules : TableRules t) (h : Shaped s) (f : StateSound t s) where
+  pub settled-row : (k : ℕ) → k < t .ntasks → JudgedRow t (settle t s mark .state) k
+  unfolding settle
+  settled-row k l =
+      let one = step1 t s mark (s .last) .state in
+      let two = step2 t (s .mode) one in
+      let h1 = alike-shaped (step1-alike t s mark (s .last)) h in
+      step4-row t (step3 t two) k
+      (step3-row t two k l
+      (step2-row t (s .mode) one (rules .tasks-high) h1 k l (step1-row t s mark (s .last) refl rules h f k l)))
+
+  pub settled-low : (k : ℕ) → k < t .ntasks → isD2 (settle t s mark .state .mode) ≡ true →
+      isLow (taskAt t k .level) ≡ true → waitingAt (settle t s mark .state) k ≡ 0
+  unfolding settle
+  settled-low k l d low =
+      let one = step1 t s mark (s .last) .state in
+      let two = step2 t (s .mode) one in
+      let h1 = alike-shaped (step1-alike t s mark (s .last)) h in
+      let fewer = step1-waiting t s mark (s .last) (rules .tasks-high) h (f .last) k in
+      step4-low t (step3 t two) k
+      (step3-low t two k
+      (λ e.
+      step2-low t (s .mode) one (rules .tasks-high) h1 k l (λ b. omega (arith, f .tasks k l .low b low))
+      (sym (ap isD2 (step2-mode t (s .mode) one)) ∙ e)
+      low))
+      d
+
+  -- what waited of a task waits still, left, or was discarded
+  pub waiting-settled : (k : ℕ) → k < t .ntasks →
+      waitingAt (settle t s mark .state) k +
+      (finishedBy (settle t s mark .left) k + cutBy (settle t s mark .left) k) +
+      settle t s mark .discarded k ≡
+      waitingAt s k
+  unfolding settle step4
+  waiting-settled k l =
+      let one = step1 t s mark (s .last) .state in
+      let h1 = alike-shaped (step1-alike t s mark (s .last)) h in
+      omega (
+        arith,
+        step1-waiting t s mark (s .last) (rules .tasks-high) h (f .last) k,
+        step2-counted t (s .mode) one (rules .tasks-high) h1 k l,
+        step3-waiting t (step2 t (s .mode) one) k,
+      )
+
+-- Steps 5 to 7: no queue changes, and the job that runs has run one tick more.
+pub waiting-after : (t : Table) (s : State) (mark : Bool) (k : ℕ) →
+    waitingAt (tickTaken t s mark .state) k ≡ waitingAt (settle t s mark .state) k
+unfolding tickTaken advance
+waiting-after t s mark k = refl
+
+pub runs-after : (t : Table) (s : State) (mark : Bool) → t .ntasks ≤ 64 → Shaped s → (k : ℕ) → k < t .ntasks →
+    runsAt (tickTaken t s mark .state) k ≡
+    runsAt (settle t s mark .state) k + ran (choose t (settle t s mark .state)) k
+unfolding tickTaken advance
+runs-after t s mark many h k l =
+    anew-at (t .ntasks) _ (settle t s mark .state .runs) k 0 l (omega (arith, settle-shaped t s mark h .runs))

@@ -1,0 +1,322 @@
+-- The laws of one tick, T1 to T6: what it does to a server's counts, who is charged, and whose job runs. In them z is
+-- the state that step 5 finds, `settle t s mark .state`, and the turn is `choose t z`. Each is read off the steps and
+-- off the law of the highest row. Assumes nothing.
+use mathlib.Core.Path.{_≡_, refl, ap, sym, _∙_}
+use mathlib.Core.Bool.{Bool, true, false, _||_}
+use mathlib.Core.Logic.{_⊎_, inl, inr}
+use Prim.Native.Nat.{ℕ, _+_, _≤_, _<_}
+use native.Mathlib.Omega.{arith}
+use lib.Dec.{ltb, eqb}
+use borrow.Author.Tests.{ltb-true, lt-ltb, eqb-true, eqb-false, eq-eqb}
+use Rattle.laws.specs.declared.Found.{Found}
+use Rattle.laws.specs.declared.Found.the-variants.{At, Nothing}
+use Rattle.laws.specs.Choice.{if_then_else_}
+use Rattle.laws.proofs.Choice.{clash, if-ind, and-left, and-right, and-true, or-true-left, or-true-right, or-cases, le-or-lt}
+use Rattle.laws.proofs.Rows.{any-found, any-at}
+use Rattle.laws.proofs.Anew.{anew-at}
+use Rattle.laws.proofs.Highest.{highest-at, highest-none}
+use Rattle.table.specs.declared.Table.{Table}
+use Rattle.table.specs.Rows.{serverAt, taskAt, periodAt, priorityAt, capacityAt, taskPriorityAt, isTimed}
+use Rattle.table.proofs.Rules.{TableRules}
+use Rattle.run.specs.declared.State.{State}
+use Rattle.run.specs.declared.Turn.{Turn}
+use Rattle.run.specs.declared.Turn.the-variants.{Run as Ran, Empty, Idle}
+use Rattle.run.specs.State.{usedAt, elapsedAt, owner, taskWaits, waitsFor, waits}
+use Rattle.run.specs.Answers.{one, charged, ran}
+use Rattle.run.specs.Release.{withJob}
+use Rattle.run.specs.Tick.{step4, settle, able, highestAble, highestTask, turnOf, choose, lastOf, advance, tickTaken}
+use Rattle.run.proofs.Shape.{Shaped, alike-shaped, step123, step123-alike, settle-is, settle-shaped, settle-counts}
+
+-- T1. The servers' counts: step 4 starts them afresh where the period ended, steps 5 and 7 raise them. Nothing else
+-- changes them.
+step4-used : (t : Table) (s : State) (i : ℕ) → i < t .nservers → t .nservers ≤ 32 → Shaped s →
+    usedAt (step4 t s) i ≡ (if eqb (elapsedAt s i) (periodAt t i) then 0 else usedAt s i)
+unfolding step4
+step4-used t s i l few h = anew-at (t .nservers) _ (s .used) i 0 l (omega (arith, h .used))
+
+step4-elapsed : (t : Table) (s : State) (i : ℕ) → i < t .nservers → t .nservers ≤ 32 → Shaped s →
+    elapsedAt (step4 t s) i ≡ (if eqb (elapsedAt s i) (periodAt t i) then 0 else elapsedAt s i)
+unfolding step4
+step4-elapsed t s i l few h = anew-at (t .nservers) _ (s .elapsed) i 0 l (omega (arith, h .elapsed))
+
+pub used-settled : (t : Table) (s : State) (mark : Bool) (i : ℕ) → i < t .nservers → t .nservers ≤ 32 → Shaped s →
+    usedAt (settle t s mark .state) i ≡ (if eqb (elapsedAt s i) (periodAt t i) then 0 else usedAt s i)
+used-settled t s mark i l few h =
+    let a = step123-alike t s mark in
+    rw (settle-is t s mark, step4-used t (step123 t s mark) i l few (alike-shaped a h), a .used, a .elapsed)
+
+pub elapsed-settled : (t : Table) (s : State) (mark : Bool) (i : ℕ) → i < t .nservers → t .nservers ≤ 32 → Shaped s →
+    elapsedAt (settle t s mark .state) i ≡ (if eqb (elapsedAt s i) (periodAt t i) then 0 else elapsedAt s i)
+elapsed-settled t s mark i l few h =
+    let a = step123-alike t s mark in
+    rw (settle-is t s mark, step4-elapsed t (step123 t s mark) i l few (alike-shaped a h), a .elapsed)
+
+pub used-after : (t : Table) (s : State) (mark : Bool) (i : ℕ) → i < t .nservers → t .nservers ≤ 32 → Shaped s →
+    usedAt (tickTaken t s mark .state) i ≡
+    usedAt (settle t s mark .state) i + charged (choose t (settle t s mark .state)) i
+unfolding tickTaken advance
+used-after t s mark i l few h =
+    anew-at (t .nservers) _ (settle t s mark .state .used) i 0 l (omega (arith, settle-shaped t s mark h .used))
+
+pub elapsed-after : (t : Table) (s : State) (mark : Bool) (i : ℕ) → i < t .nservers → t .nservers ≤ 32 → Shaped s →
+    elapsedAt (tickTaken t s mark .state) i ≡ elapsedAt (settle t s mark .state) i + 1
+unfolding tickTaken advance
+elapsed-after t s mark i l few h =
+    anew-at (t .nservers) _ (settle t s mark .state .elapsed) i 0 l (omega (arith, settle-shaped t s mark h .elapsed))
+
+pub mode-after : (t : Table) (s : State) (mark : Bool) → tickTaken t s mark .state .mode ≡ settle t s mark .state .mode
+unfolding tickTaken advance
+mode-after t s mark = refl
+
+-- "the tick number" rises by 1, and no release is counted
+pub ticks-after : (t : Table) (s : State) (mark : Bool) → tickTaken t s mark .state .ticks ≡ s .ticks + 1
+unfolding tickTaken advance
+ticks-after t s mark = ap (λ n. n + 1) (settle-counts t s mark .0)
+
+pub accepted-after : (t : Table) (s : State) (mark : Bool) → tickTaken t s mark .state .accepted ≡ s .accepted
+unfolding tickTaken advance
+accepted-after t s mark = settle-counts t s mark .1
+
+-- the last-run job is the one that this tick ran
+pub last-after : (t : Table) (s : State) (mark : Bool) →
+    tickTaken t s mark .state .last ≡ lastOf (choose t (settle t s mark .state))
+unfolding tickTaken advance
+last-after t s mark = refl
+
+-- what the tick says of its mode and its turn is what step 5 found
+pub answer-mode : (t : Table) (s : State) (mark : Bool) → tickTaken t s mark .answer .mode ≡ settle t s mark .state .mode
+unfolding tickTaken
+answer-mode t s mark = refl
+
+pub answer-tick : (t : Table) (s : State) (mark : Bool) → tickTaken t s mark .answer .tick ≡ s .ticks
+unfolding tickTaken
+answer-tick t s mark = refl
+
+pub answer-turn : (t : Table) (s : State) (mark : Bool) →
+    tickTaken t s mark .answer .turn ≡ choose t (settle t s mark .state)
+unfolding tickTaken
+answer-turn t s mark = refl
+
+-- a release changes neither used nor elapsed nor the mode
+pub used-released : (s : State) (k i : ℕ) → usedAt (withJob s k) i ≡ usedAt s i
+used-released s k i = refl
+
+pub elapsed-released : (s : State) (k i : ℕ) → elapsedAt (withJob s k) i ≡ elapsedAt s i
+elapsed-released s k i = refl
+
+pub mode-released : (s : State) (k : ℕ) → withJob s k .mode ≡ s .mode
+mode-released s k = refl
+
+-- Who is charged is the highest able server.
+pub one-same : (i : ℕ) → one i i ≡ 1
+one-same i = rw (eq-eqb i i refl)
+
+pub one-eq : (i j : ℕ) → one i j ≡ 1 → i ≡ j
+one-eq i j = if-ind (λ (n : ℕ). n ≡ 1 → i ≡ j) (eqb i j) (λ e f. eqb-true i j e) (λ e f. absurd (omega arith))
+
+pub one-is : (i j : ℕ) → (one i j ≡ 0) ⊎ (one i j ≡ 1)
+one-is i j = if-ind (λ (n : ℕ). (n ≡ 0) ⊎ (n ≡ 1)) (eqb i j) (λ e. inr refl) (λ e. inl refl)
+
+charged-turn : (j : ℕ) (a : Found) (i : ℕ) → charged (turnOf j a) i ≡ one j i
+charged-turn j (At k) i = refl
+charged-turn j Nothing i = refl
+
+pub highest-charged : (t : Table) (z : State) (j i : ℕ) → highestAble t z ≡ At j → charged (choose t z) i ≡ one j i
+unfolding choose
+highest-charged t z j i e = rw e (charged-turn j (highestTask t z j) i)
+
+pub none-charged : (t : Table) (z : State) (i : ℕ) → highestAble t z ≡ Nothing → charged (choose t z) i ≡ 0
+unfolding choose
+none-charged t z i e = rw e
+
+pub charged-highest : (t : Table) (z : State) (i : ℕ) → charged (choose t z) i ≡ 1 → highestAble t z ≡ At i
+charged-highest t z i c = go (highestAble t z) refl
+  where
+    go : (a : Found) → highestAble t z ≡ a → highestAble t z ≡ At i
+    go (At j) e = e ∙ ap At (one-eq j i (sym (highest-charged t z j i e) ∙ c))
+    go Nothing e = absurd (omega (arith, none-charged t z i e))
+
+-- T2
+pub charged-able : (t : Table) (z : State) (i : ℕ) → charged (choose t z) i ≡ 1 →
+    (i < t .nservers) × (able t z i ≡ true)
+unfolding highestAble
+charged-able t z i c =
+    let h = highest-at (able t z) (priorityAt t) (t .nservers) i (charged-highest t z i c) in
+    (h .below, h .is)
+
+-- T3
+pub able-charged : (t : Table) (z : State) (i : ℕ) → i < t .nservers → able t z i ≡ true →
+    ((a b : ℕ) → a < t .nservers → b < t .nservers → priorityAt t a ≡ priorityAt t b → a ≡ b) →
+    (charged (choose t z) i ≡ 1) ⊎
+    ((j : ℕ) × (j < t .nservers) × (priorityAt t i < priorityAt t j) × (charged (choose t z) j ≡ 1))
+unfolding highestAble
+able-charged t z i l a d = go (highestAble t z) refl
+  where
+    by : (j : ℕ) → highestAble t z ≡ At j → j < t .nservers → priorityAt t i ≤ priorityAt t j →
+        (priorityAt t j ≤ priorityAt t i) ⊎ (priorityAt t i < priorityAt t j) →
+        (charged (choose t z) i ≡ 1) ⊎
+        ((j : ℕ) × (j < t .nservers) × (priorityAt t i < priorityAt t j) × (charged (choose t z) j ≡ 1))
+    by j e m p (inl q) =
+        let same : i ≡ j = d i j l m (omega arith) in
+        inl (highest-charged t z j i e ∙ rw same (one-same j))
+    by j e m p (inr q) = inr (j, m, q, highest-charged t z j j e ∙ one-same j)
+
+    go : (f : Found) → highestAble t z ≡ f →
+        (charged (choose t z) i ≡ 1) ⊎
+        ((j : ℕ) × (j < t .nservers) × (priorityAt t i < priorityAt t j) × (charged (choose t z) j ≡ 1))
+    go (At j) e =
+        let h = highest-at (able t z) (priorityAt t) (t .nservers) j e in
+        by j e (h .below) (h .top i l a) (le-or-lt (priorityAt t j) (priorityAt t i))
+    go Nothing e =
+        absurd (clash (able t z i) a (highest-none (able t z) (priorityAt t) (t .nservers) e i l))
+
+-- its premise, from the rules of a table
+pub servers-apart : (t : Table) → TableRules t → (a b : ℕ) → a < t .nservers → b < t .nservers →
+    priorityAt t a ≡ priorityAt t b → a ≡ b
+servers-apart t rules a b l m e = go (eqb a b) refl
+  where
+    go : (c : Bool) → eqb a b ≡ c → a ≡ b
+    go true q = eqb-true a b q
+    go false q = absurd (rules .servers-differ a b l m (eqb-false a b q) e)
+
+-- T4
+pub timed-able : (t : Table) (z : State) (i : ℕ) → isTimed (serverAt t i .kind) ≡ true →
+    usedAt z i < capacityAt t (z .mode) i → able t z i ≡ true
+unfolding able
+timed-able t z i k u =
+    and-true
+    (ltb (usedAt z i) (capacityAt t (z .mode) i))
+    (isTimed (serverAt t i .kind) || waits t z i)
+    (lt-ltb (usedAt z i) (capacityAt t (z .mode) i) u)
+    (or-true-left (isTimed (serverAt t i .kind)) (waits t z i) k)
+
+pub waiting-able : (t : Table) (z : State) (i : ℕ) → waits t z i ≡ true → usedAt z i < capacityAt t (z .mode) i →
+    able t z i ≡ true
+unfolding able
+waiting-able t z i w u =
+    and-true
+    (ltb (usedAt z i) (capacityAt t (z .mode) i))
+    (isTimed (serverAt t i .kind) || waits t z i)
+    (lt-ltb (usedAt z i) (capacityAt t (z .mode) i) u)
+    (or-true-right (isTimed (serverAt t i .kind)) (waits t z i) w)
+
+pub able-room : (t : Table) (z : State) (i : ℕ) → able t z i ≡ true → usedAt z i < capacityAt t (z .mode) i
+unfolding able
+able-room t z i a =
+    ltb-true
+    (usedAt z i)
+    (capacityAt t (z .mode) i)
+    (and-left
+    (ltb (usedAt z i) (capacityAt t (z .mode) i))
+    (isTimed (serverAt t i .kind) || waits t z i)
+    a)
+
+pub able-cause : (t : Table) (z : State) (i : ℕ) → able t z i ≡ true →
+    (isTimed (serverAt t i .kind) ≡ true) ⊎ (waits t z i ≡ true)
+unfolding able
+able-cause t z i a =
+    or-cases
+    (isTimed (serverAt t i .kind))
+    (waits t z i)
+    (and-right
+    (ltb (usedAt z i) (capacityAt t (z .mode) i))
+    (isTimed (serverAt t i .kind) || waits t z i)
+    a)
+
+-- T5
+pub charged-is : (turn : Turn) (i : ℕ) → (charged turn i ≡ 0) ⊎ (charged turn i ≡ 1)
+charged-is (Ran j k) i = one-is j i
+charged-is (Empty j) i = one-is j i
+charged-is Idle i = inl refl
+
+pub charged-le : (turn : Turn) (i : ℕ) → charged turn i ≤ 1
+charged-le turn i = elim (charged-is turn i) [ inl e ↦ omega arith | inr e ↦ omega arith ]
+
+-- T6. Server i is charged and runs the front job of its highest task with a waiting job, task k.
+pub record RunsFront (t : Table) (z : State) (i k : ℕ) : Type 0 where
+  pub found : highestTask t z i ≡ At k
+  pub turn : choose t z ≡ Ran i k
+  pub ran : ran (choose t z) k ≡ 1
+  pub below : k < t .ntasks
+  pub waits : taskWaits z k ≡ true
+  pub belongs : owner (z .mode) (taskAt t k) ≡ i
+  pub top : (j : ℕ) → j < t .ntasks → waitsFor t z i j ≡ true → taskPriorityAt t j ≤ taskPriorityAt t k
+
+pub found-front : (t : Table) (z : State) (i k : ℕ) → charged (choose t z) i ≡ 1 → highestTask t z i ≡ At k →
+    RunsFront t z i k
+unfolding highestTask choose
+found-front t z i k c e =
+    let h = highest-at (waitsFor t z i) (taskPriorityAt t) (t .ntasks) k e in
+    let w : Bool = taskWaits z k in
+    let o : Bool = eqb (owner (z .mode) (taskAt t k)) i in
+    let says : choose t z ≡ Ran i k = rw (charged-highest t z i c, e) in
+    record {
+      found = e;
+      turn = says;
+      ran = ap (λ u. ran u k) says ∙ one-same k;
+      below = h .below;
+      waits = and-left w o (h .is);
+      belongs = eqb-true (owner (z .mode) (taskAt t k)) i (and-right w o (h .is));
+      top = h .top;
+    }
+
+pub charged-runs : (t : Table) (z : State) (i : ℕ) → charged (choose t z) i ≡ 1 → waits t z i ≡ true →
+    (k : ℕ) × RunsFront t z i k
+unfolding waits highestTask
+charged-runs t z i c w = go (highestTask t z i) refl
+  where
+    go : (a : Found) → highestTask t z i ≡ a → (k : ℕ) × RunsFront t z i k
+    go (At k) e = (k, found-front t z i k c e)
+    go Nothing e =
+        let f = any-found (waitsFor t z i) (t .ntasks) w in
+        absurd
+        (clash
+        (waitsFor t z i (f .0))
+        (f .2)
+        (highest-none (waitsFor t z i) (taskPriorityAt t) (t .ntasks) e (f .0) (f .1)))
+
+-- whose job runs is that task of the server charged
+pub ran-front : (t : Table) (z : State) (k : ℕ) → ran (choose t z) k ≡ 1 → (i : ℕ) × RunsFront t z i k
+unfolding choose
+ran-front t z k r = go (highestAble t z) refl
+  where
+    task : (i : ℕ) → highestAble t z ≡ At i → (a : Found) → highestTask t z i ≡ a → (i : ℕ) × RunsFront t z i k
+    task i e (At j) q =
+        let says : choose t z ≡ Ran i j = rw (e, q) in
+        let same : j ≡ k = one-eq j k (sym (ap (λ u. ran u k) says) ∙ r) in
+        (i, found-front t z i k (highest-charged t z i i e ∙ one-same i) (q ∙ ap At same))
+    task i e Nothing q =
+        let says : choose t z ≡ Empty i = rw (e, q) in
+        absurd (omega (arith, ap (λ u. ran u k) says, r))
+
+    go : (a : Found) → highestAble t z ≡ a → (i : ℕ) × RunsFront t z i k
+    go (At i) e = task i e (highestTask t z i) refl
+    go Nothing e =
+        let says : choose t z ≡ Idle = rw e in
+        absurd (omega (arith, ap (λ u. ran u k) says, r))
+
+pub ran-is : (turn : Turn) (k : ℕ) → (ran turn k ≡ 0) ⊎ (ran turn k ≡ 1)
+ran-is (Ran i j) k = one-is j k
+ran-is (Empty i) k = inl refl
+ran-is Idle k = inl refl
+
+pub charged-empty : (t : Table) (z : State) (i : ℕ) → charged (choose t z) i ≡ 1 → waits t z i ≡ false →
+    (choose t z ≡ Empty i) × (isTimed (serverAt t i .kind) ≡ true)
+unfolding waits highestTask choose
+charged-empty t z i c n = (go (highestTask t z i) refl, kind (able-cause t z i (charged-able t z i c .1)))
+  where
+    go : (a : Found) → highestTask t z i ≡ a → choose t z ≡ Empty i
+    go (At k) e =
+        let h = highest-at (waitsFor t z i) (taskPriorityAt t) (t .ntasks) k e in
+        absurd (clash (waits t z i) (any-at (waitsFor t z i) (t .ntasks) k (h .below) (h .is)) n)
+    go Nothing e = rw (charged-highest t z i c, e)
+
+    kind : (isTimed (serverAt t i .kind) ≡ true) ⊎ (waits t z i ≡ true) → isTimed (serverAt t i .kind) ≡ true
+    kind (inl k) = k
+    kind (inr w) = absurd (clash (waits t z i) w n)
+
+-- At most one server is charged in a tick. No bound rests on this.
+pub one-charged : (turn : Turn) (i j : ℕ) → charged turn i ≡ 1 → charged turn j ≡ 1 → i ≡ j
+one-charged (Ran k n) i j p q = sym (one-eq k i p) ∙ one-eq k j q
+one-charged (Empty k) i j p q = sym (one-eq k i p) ∙ one-eq k j q
+one-charged Idle i j p q = absurd (omega arith)

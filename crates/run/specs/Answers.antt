@@ -1,0 +1,48 @@
+-- What an answer says: the paper's number for each case, and what it tells of servers and jobs. The promises count with these.
+use mathlib.Core.Bool.{Bool, true, false}
+use Prim.Native.Nat.{ℕ}
+use lib.Dec.{eqb}
+use Rattle.laws.specs.Choice.{if_then_else_}
+use Rattle.table.specs.declared.Refusal.{Refusal}
+use Rattle.table.specs.Refusals.{numberOf}
+use Rattle.run.specs.declared.Turn.{Turn}
+use Rattle.run.specs.declared.Turn.the-variants.{Run as Ran, Empty, Idle}
+use Rattle.run.specs.declared.Left.{Left}
+use Rattle.run.specs.declared.Left.the-variants.{Nobody, Done, Cut}
+use Rattle.run.specs.declared.TickAnswer.{TickAnswer}
+use Rattle.run.specs.declared.Answer.{Answer}
+use Rattle.run.specs.declared.Answer.the-variants.{Started, Released, Ticked, No}
+
+-- the paper's number for no, and 0 for what is taken
+abbrev pub noOf : Answer → ℕ
+noOf Started = 0
+noOf (Released k) = 0
+noOf (Ticked a) = 0
+noOf (No why) = numberOf why
+
+-- 1 where the two rows are one, else 0
+abbrev pub one : ℕ → ℕ → ℕ
+one i j = if eqb i j then 1 else 0
+
+-- 1 if server i is charged in the tick, else 0
+abbrev pub charged : Turn → ℕ → ℕ
+charged (Ran j k) i = one j i
+charged (Empty j) i = one j i
+charged Idle i = 0
+
+-- 1 if a job of task k is run in the tick, else 0
+abbrev pub ran : Turn → ℕ → ℕ
+ran (Ran i j) k = one j k
+ran (Empty i) k = 0
+ran Idle k = 0
+
+-- 1 if a job of task k left finished; left cut
+abbrev pub finishedBy : Left → ℕ → ℕ
+finishedBy Nobody k = 0
+finishedBy (Done j) k = one j k
+finishedBy (Cut j) k = 0
+
+abbrev pub cutBy : Left → ℕ → ℕ
+cutBy Nobody k = 0
+cutBy (Done j) k = 0
+cutBy (Cut j) k = one j k

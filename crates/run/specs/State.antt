@@ -1,0 +1,132 @@
+-- A state's counts by row, a state with some of them changed, and a fresh one.
+use mathlib.Core.Bool.{Bool, _&&_}
+use mathlib.Core.List.{List}
+use Prim.Native.Nat.{ℕ}
+use lib.Dec.{ltb, eqb}
+use lib.ListN.{getD, replicate}
+use Rattle.laws.specs.Rows.{anyBelow}
+use Rattle.table.specs.declared.Mode.{Mode}
+use Rattle.table.specs.declared.Mode.the-variants.{N, D1, D2}
+use Rattle.table.specs.declared.Task.{Task}
+use Rattle.table.specs.declared.Table.{Table}
+use Rattle.table.specs.Rows.{taskAt}
+use Rattle.run.specs.declared.Last.{Last}
+use Rattle.run.specs.declared.Last.the-variants.{NoJob}
+use Rattle.run.specs.declared.State.{State}
+
+abbrev pub usedAt : State → ℕ → ℕ
+usedAt s i = getD (s .used) i 0
+
+abbrev pub elapsedAt : State → ℕ → ℕ
+elapsedAt s i = getD (s .elapsed) i 0
+
+abbrev pub waitingAt : State → ℕ → ℕ
+waitingAt s k = getD (s .waiting) k 0
+
+-- the run count of the front job
+abbrev pub runsAt : State → ℕ → ℕ
+runsAt s k = getD (s .runs) k 0
+
+-- "In N a task belongs to its home, else to its degraded server."
+abbrev pub owner : Mode → Task → ℕ
+owner N k = k .home
+owner D1 k = k .degraded
+owner D2 k = k .degraded
+
+-- task k has a waiting job
+abbrev pub taskWaits : State → ℕ → Bool
+taskWaits s k = ltb 0 (waitingAt s k)
+
+-- task k belongs to server i and has a waiting job
+abbrev pub waitsFor : Table → State → ℕ → ℕ → Bool
+waitsFor t s i k = taskWaits s k && eqb (owner (s .mode) (taskAt t k)) i
+
+-- server i has a waiting job
+unfoldable pub waits : Table → State → ℕ → Bool
+waits t s i = anyBelow (t .ntasks) (waitsFor t s i)
+
+-- some job waits
+unfoldable pub someWaits : Table → State → Bool
+someWaits t s = anyBelow (t .ntasks) (taskWaits s)
+
+abbrev pub withMode : State → Mode → State
+withMode s m =
+    record {
+      mode = m;
+      used = s .used;
+      elapsed = s .elapsed;
+      waiting = s .waiting;
+      runs = s .runs;
+      last = s .last;
+      ticks = s .ticks;
+      accepted = s .accepted;
+    }
+
+-- the servers' counts
+abbrev pub withBudgets : State → List ℕ → List ℕ → State
+withBudgets s used elapsed =
+    record {
+      mode = s .mode;
+      used = used;
+      elapsed = elapsed;
+      waiting = s .waiting;
+      runs = s .runs;
+      last = s .last;
+      ticks = s .ticks;
+      accepted = s .accepted;
+    }
+
+-- the tasks' queues
+abbrev pub withQueues : State → List ℕ → List ℕ → State
+withQueues s waiting runs =
+    record {
+      mode = s .mode;
+      used = s .used;
+      elapsed = s .elapsed;
+      waiting = waiting;
+      runs = runs;
+      last = s .last;
+      ticks = s .ticks;
+      accepted = s .accepted;
+    }
+
+abbrev pub withLast : State → Last → State
+withLast s l =
+    record {
+      mode = s .mode;
+      used = s .used;
+      elapsed = s .elapsed;
+      waiting = s .waiting;
+      runs = s .runs;
+      last = l;
+      ticks = s .ticks;
+      accepted = s .accepted;
+    }
+
+-- the counts of taken ticks and of accepted releases
+abbrev pub withCounts : State → ℕ → ℕ → State
+withCounts s ticks accepted =
+    record {
+      mode = s .mode;
+      used = s .used;
+      elapsed = s .elapsed;
+      waiting = s .waiting;
+      runs = s .runs;
+      last = s .last;
+      ticks = ticks;
+      accepted = accepted;
+    }
+
+-- "A fresh run is in N, all counts 0."
+abbrev pub fresh : State
+fresh =
+    record {
+      mode = N;
+      used = replicate 32 0;
+      elapsed = replicate 32 0;
+      waiting = replicate 64 0;
+      runs = replicate 64 0;
+      last = NoJob;
+      ticks = 0;
+      accepted = 0;
+    }
