@@ -1,0 +1,4 @@
+pub mod Windows
+pub mod Ledger
+pub mod Split
+pub mod Response

@@ -1,0 +1,10 @@
+pub mod Opened
+pub mod Figures
+pub mod Accepted
+pub mod Ticks
+pub mod Lists
+pub mod First
+pub mod Charged
+pub mod Second
+pub mod Bounds
+pub mod Shown

@@ -1,0 +1,3 @@
+pub mod Example
+pub mod Figures
+pub mod Bounds
