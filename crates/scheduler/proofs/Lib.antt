@@ -1,0 +1,10 @@
+pub mod Rows
+pub mod Judging
+pub mod Marking
+pub mod Settling
+pub mod Tops
+pub mod Ticking
+pub mod Releasing
+pub mod Checks
+pub mod Keeping
+pub mod Serving

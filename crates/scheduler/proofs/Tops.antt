@@ -1,0 +1,202 @@
+-- The highest marked row, kept as a priority and a row, 0 being nothing found: how a walk over tasks finds the highest
+-- of each server, and a walk over servers the highest that is able. Priorities of a table are at least 1. Assumes
+-- nothing.
+use mathlib.Core.Path.{_≡_, refl, sym, ap, _∙_}
+use mathlib.Core.Bool.{Bool, true, false, _&&_, _||_}
+use mathlib.Core.List.{List}
+use mathlib.Core.Logic.{_⊎_, inl, inr}
+use Prim.Native.Nat.{ℕ, zero, suc, _+_, _≤_, _<_}
+use native.Mathlib.Omega.{arith}
+use lib.Dec.{ltb, eqb}
+use lib.ListN.{length, getD, set, replicate, getD-replicate}
+use lib.Seq.{getD-set-same, getD-set-other}
+use borrow.Author.Tests.{lt-ltb, ltb-true, ltb-false, eq-eqb, ne-eqb}
+use Rattle.laws.specs.declared.Found.the-variants.{At}
+use Rattle.laws.specs.Rows.{anyBelow, highest}
+use Rattle.laws.proofs.Choice.{and-left, and-right, and-true}
+use Rattle.laws.proofs.Rows.{any-at, none-build}
+use Rattle.laws.proofs.Highest.{Picked, picked-skip, picked-new, picked-take, picked-keep, picked-is}
+use Rattle.table.specs.declared.Mode.{Mode}
+use Rattle.table.specs.declared.Mode.the-variants.{N, D1, D2}
+use Rattle.table.specs.declared.Table.{Table}
+use Rattle.table.specs.Rows.{serverAt, taskAt, priorityAt, capacityAt, taskPriorityAt, isTimed}
+use Rattle.table.proofs.Rules.{TableRules}
+use Rattle.run.specs.declared.State.{State}
+use Rattle.run.specs.declared.Turn.the-variants.{Idle}
+use Rattle.run.specs.State.{usedAt, waitingAt, owner, waitsFor, waits}
+use Rattle.run.specs.Tick.{able, highestAble, highestTask, turnOf, choose}
+use Rattle.run.proofs.Steps.{same-or-not}
+use Rattle.scheduler.specs.Choose.{foundAt}
+
+pub found-there : (height row : ℕ) → 0 < height → foundAt height row ≡ At row
+found-there zero row h = absurd (omega arith)
+found-there (suc height) row h = refl
+
+pub record Top (n : ℕ) (marked : ℕ → Bool) (priority : ℕ → ℕ) (height row : ℕ) : Type 0 where
+  pub picked : Picked n marked priority (foundAt height row)
+  pub level : 0 < height → height ≡ priority row
+
+module _ (marked : ℕ → Bool) (priority : ℕ → ℕ) where
+  pub top-none : (row : ℕ) → Top 0 marked priority 0 row
+  top-none row = record { picked = λ j h. absurd (omega arith); level = λ h. absurd (omega arith) }
+
+  pub top-skip : (n height row : ℕ) → Top n marked priority height row → marked n ≡ false →
+      Top (n + 1) marked priority height row
+  top-skip n height row p e =
+      record { picked = picked-skip marked priority n (foundAt height row) (p .picked) e; level = p .level }
+
+  pub top-take : (n height row : ℕ) → Top n marked priority height row → marked n ≡ true → height < priority n →
+      Top (n + 1) marked priority (priority n) n
+  top-take n height row p e l =
+      record
+      { picked = rw (found-there (priority n) n (omega arith)) (go height (p .picked) (p .level) l); level = λ h. refl }
+    where
+      go : (height : ℕ) → Picked n marked priority (foundAt height row) → (0 < height → height ≡ priority row) →
+          height < priority n →
+          Picked (n + 1) marked priority (At n)
+      go zero q v h = picked-new marked priority n q e
+      go (suc height) q v h = picked-take marked priority n row q e (omega (arith, v (omega arith)))
+
+  pub top-keep : (n height row : ℕ) → Top n marked priority height row → priority n ≤ height → 1 ≤ priority n →
+      Top (n + 1) marked priority height row
+  top-keep n height row p l g = record { picked = go height (p .picked) (p .level) l; level = p .level }
+    where
+      go : (height : ℕ) → Picked n marked priority (foundAt height row) → (0 < height → height ≡ priority row) →
+          priority n ≤ height →
+          Picked (n + 1) marked priority (foundAt height row)
+      go zero q v h = absurd (omega arith)
+      go (suc height) q v h = picked-keep marked priority n row q (omega (arith, v (omega arith)))
+
+  pub top-is : (n height row : ℕ) → Top n marked priority height row → foundAt height row ≡ highest n marked priority
+  top-is n height row p = picked-is marked priority n (foundAt height row) (p .picked)
+
+  pub top-some : (n height row : ℕ) → Top n marked priority height row → ltb 0 height ≡ anyBelow n marked
+  top-some n height row p = go height (p .picked)
+    where
+      go : (height : ℕ) → Picked n marked priority (foundAt height row) → ltb 0 height ≡ anyBelow n marked
+      go zero q = sym (none-build marked n q)
+      go (suc height) q = lt-ltb 0 (suc height) (omega arith) ∙ sym (any-at marked n row (q .below) (q .is))
+
+module _ (t : Table) (s : State) where
+  -- of each server, its highest task with a waiting job among the first k
+  abbrev pub Tops : ℕ → List ℕ → List ℕ → Type 0
+  Tops k height top = (i : ℕ) → i < 32 → Top k (waitsFor t s i) (taskPriorityAt t) (getD height i 0) (getD top i 0)
+
+  pub tops-none : Tops 0 (replicate 32 0) (replicate 32 0)
+  tops-none i h =
+      rw (getD-replicate {A = ℕ} 32 i 0 0 h) (top-none (waitsFor t s i) (taskPriorityAt t) 0)
+
+  others : (i k o : ℕ) → o ≡ owner (s .mode) (taskAt t k) → (i ≡ o → ⊥) → waitsFor t s i k ≡ false
+  others i k o e d = go (ltb 0 (waitingAt s k))
+    where
+      go : (b : Bool) → (b && eqb (owner (s .mode) (taskAt t k)) i) ≡ false
+      go true = ne-eqb (owner (s .mode) (taskAt t k)) i (λ q. d (sym q ∙ sym e))
+      go false = refl
+
+  its : (i k o : ℕ) → o ≡ owner (s .mode) (taskAt t k) → i ≡ o → ltb 0 (waitingAt s k) ≡ true → waitsFor t s i k ≡ true
+  its i k o e d w =
+      and-true (ltb 0 (waitingAt s k)) (eqb (owner (s .mode) (taskAt t k)) i) w
+      (eq-eqb (owner (s .mode) (taskAt t k)) i (sym e ∙ sym d))
+
+  not-its : (i k : ℕ) → ltb 0 (waitingAt s k) ≡ false → waitsFor t s i k ≡ false
+  not-its i k w = rw w
+
+  pub tops-take : (k o : ℕ) (height top : List ℕ) → length height ≡ 32 → length top ≡ 32 →
+      o ≡ owner (s .mode) (taskAt t k) → o < 32 →
+      (ltb 0 (waitingAt s k) && ltb (getD height o 0) (taskPriorityAt t k)) ≡ true → Tops k height top →
+      Tops (k + 1) (set height o (taskPriorityAt t k)) (set top o k)
+  tops-take k o height top lh lt e l h p i b = go (same-or-not i o)
+    where
+      w : ltb 0 (waitingAt s k) ≡ true
+      w = and-left (ltb 0 (waitingAt s k)) (ltb (getD height o 0) (taskPriorityAt t k)) h
+
+      above : getD height o 0 < taskPriorityAt t k
+      above =
+          ltb-true (getD height o 0) (taskPriorityAt t k)
+          (and-right (ltb 0 (waitingAt s k)) (ltb (getD height o 0) (taskPriorityAt t k)) h)
+
+      go : (i ≡ o) ⊎ (i ≡ o → ⊥) →
+          Top (k + 1) (waitsFor t s i) (taskPriorityAt t) (getD (set height o (taskPriorityAt t k)) i 0)
+          (getD (set top o k) i 0)
+      go (inl q) =
+          rw (q, getD-set-same height o (taskPriorityAt t k) 0 (omega arith), getD-set-same top o k 0 (omega arith))
+          (top-take (waitsFor t s o) (taskPriorityAt t) k (getD height o 0) (getD top o 0) (p o l) (its o k o e refl w)
+          above)
+      go (inr d) =
+          rw (getD-set-other height o i (taskPriorityAt t k) 0 d, getD-set-other top o i k 0 d)
+          (top-skip (waitsFor t s i) (taskPriorityAt t) k (getD height i 0) (getD top i 0) (p i b) (others i k o e d))
+
+  pub tops-leave : (k o : ℕ) (height top : List ℕ) → o ≡ owner (s .mode) (taskAt t k) → 1 ≤ taskPriorityAt t k →
+      (ltb 0 (waitingAt s k) && ltb (getD height o 0) (taskPriorityAt t k)) ≡ false → Tops k height top → Tops (k + 1)
+      height top
+  tops-leave k o height top e g h p i b = go (same-or-not i o) (ltb 0 (waitingAt s k)) refl
+    where
+      go : (i ≡ o) ⊎ (i ≡ o → ⊥) → (w : Bool) → ltb 0 (waitingAt s k) ≡ w →
+          Top (k + 1) (waitsFor t s i) (taskPriorityAt t) (getD height i 0) (getD top i 0)
+      go (inr d) w f =
+          top-skip (waitsFor t s i) (taskPriorityAt t) k (getD height i 0) (getD top i 0) (p i b) (others i k o e d)
+      go (inl q) false f =
+          top-skip (waitsFor t s i) (taskPriorityAt t) k (getD height i 0) (getD top i 0) (p i b) (not-its i k f)
+      go (inl q) true f =
+          top-keep (waitsFor t s i) (taskPriorityAt t) k (getD height i 0) (getD top i 0) (p i b)
+          (rw q (ltb-false (getD height o 0) (taskPriorityAt t k) (rw f at h))) g
+
+  -- the walk over servers: the test of the code, `w` being what the first walk found of server i
+  abbrev pub Tried : ℕ → ℕ → ℕ → Bool
+  Tried i w height =
+      ltb height (priorityAt t i) &&
+      (ltb (usedAt s i) (capacityAt t (s .mode) i) && (isTimed (serverAt t i .kind) || ltb 0 w))
+
+  tried-is : (i w height : ℕ) → ltb 0 w ≡ waits t s i → Tried i w height ≡ (ltb height (priorityAt t i) && able t s i)
+  unfolding able
+  tried-is i w height e = rw e
+
+  pub able-take : (i w height row : ℕ) → Top i (able t s) (priorityAt t) height row → ltb 0 w ≡ waits t s i →
+      Tried i w height ≡ true →
+      Top (i + 1) (able t s) (priorityAt t) (priorityAt t i) i
+  able-take i w height row p e h =
+      let q : (ltb height (priorityAt t i) && able t s i) ≡ true = sym (tried-is i w height e) ∙ h in
+      top-take (able t s) (priorityAt t) i height row p
+      (and-right (ltb height (priorityAt t i)) (able t s i) q)
+      (ltb-true height (priorityAt t i) (and-left (ltb height (priorityAt t i)) (able t s i) q))
+
+  pub able-leave : (i w height row : ℕ) → Top i (able t s) (priorityAt t) height row → ltb 0 w ≡ waits t s i →
+      1 ≤ priorityAt t i →
+      Tried i w height ≡ false → Top (i + 1) (able t s) (priorityAt t) height row
+  able-leave i w height row p e g h = go (ltb height (priorityAt t i)) refl
+    where
+      q : (ltb height (priorityAt t i) && able t s i) ≡ false
+      q = sym (tried-is i w height e) ∙ h
+
+      go : (b : Bool) → ltb height (priorityAt t i) ≡ b → Top (i + 1) (able t s) (priorityAt t) height row
+      go true f = top-skip (able t s) (priorityAt t) i height row p (rw f at q)
+      go false f = top-keep (able t s) (priorityAt t) i height row p (ltb-false height (priorityAt t i) f) g
+
+  pub waits-found : (i h x : ℕ) → Top (t .ntasks) (waitsFor t s i) (taskPriorityAt t) h x → ltb 0 h ≡ waits t s i
+  unfolding waits
+  waits-found i h x p = top-some (waitsFor t s i) (taskPriorityAt t) (t .ntasks) h x p
+
+  -- what is said at the end
+  pub says-idle : (height row : ℕ) → Top (t .nservers) (able t s) (priorityAt t) height row → height ≡ 0 →
+      Idle ≡ choose t s
+  unfolding choose highestAble
+  says-idle height row p e =
+      rw (← top-is (able t s) (priorityAt t) (t .nservers) height row p) (rw e)
+
+  pub says-turn : (height row h x : ℕ) → Top (t .nservers) (able t s) (priorityAt t) height row → (height ≡ 0 → ⊥) →
+      Top (t .ntasks) (waitsFor t s row) (taskPriorityAt t) h x → turnOf row (foundAt h x) ≡ choose t s
+  unfolding choose highestAble highestTask
+  says-turn height row h x p d q =
+      rw (← top-is (able t s) (priorityAt t) (t .nservers) height row p, found-there height row (omega arith))
+      (ap (turnOf row) (top-is (waitsFor t s row) (taskPriorityAt t) (t .ntasks) h x q))
+
+  -- a row found is a row of the table
+  pub top-row : (height row : ℕ) → Top (t .nservers) (able t s) (priorityAt t) height row → (height ≡ 0 → ⊥) →
+      row < t .nservers
+  top-row zero row p d = absurd (d refl)
+  top-row (suc height) row p d = p .picked .below
+
+pub owner-row : (t : Table) → TableRules t → (m : Mode) (k : ℕ) → k < t .ntasks → owner m (taskAt t k) < t .nservers
+owner-row t r N k h = r .task k h .home
+owner-row t r D1 k h = r .task k h .degraded
+owner-row t r D2 k h = r .task k h .degraded

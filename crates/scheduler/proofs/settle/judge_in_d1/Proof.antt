@@ -1,0 +1,29 @@
+-- `scheduler::settle::judge_in_d1` meets its contract. Assumes nothing.
+use mathlib.Core.Path.{sym, _∙_}
+use Rattle.table.specs.declared.Mode.the-variants.{D1}
+use Rattle.scheduler.proofs.Judging.{below-limit, cut-in-d1, rise-from-d1}
+use borrow.Author.Needs.{needs}
+use Rattle.scheduler.proofs.settle.judge_in_d1.Statement.{statement}
+use Rattle.scheduler.proofs.settle.judge_in_d1.Tie as tie
+
+returns : tie.Need-returns
+returns c = below-limit 1 _ _ D1 (c .if1 .taken)
+
+is-low-requires : tie.Need-is-low-requires
+is-low-requires c κs = search needs
+
+returns-2 : tie.Need-returns-2
+returns-2 c = cut-in-d1 _ _ (c .before .before .if1 .left) (sym (c .before .is-low .ensures) ∙ c .if2 .taken)
+
+judge-in-d2-requires : tie.Need-judge-in-d2-requires
+judge-in-d2-requires c κs = search needs
+
+returns-3 : tie.Need-returns-3
+returns-3 c =
+    c .judge-in-d2 .ensures
+    ∙ rise-from-d1 _ _ (c .before .before .before .if1 .left)
+    (sym (c .before .before .is-low .ensures) ∙ c .before .if2 .left)
+
+pub judge-in-d1-spec : {M : Type 1} → statement M
+judge-in-d1-spec =
+    tie.close (tie.spec returns is-low-requires returns-2 judge-in-d2-requires returns-3)

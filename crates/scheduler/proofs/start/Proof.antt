@@ -1,0 +1,25 @@
+-- `scheduler::start` meets its contract. Assumes nothing.
+use mathlib.Core.Path.{sym, _∙_}
+use Rattle.scheduler.proofs.Releasing.{start-taken, start-unsound}
+use borrow.Author.Needs.{needs}
+use Rattle.scheduler.proofs.start.Statement.{statement}
+use Rattle.scheduler.proofs.start.Tie as tie
+
+fresh-state-requires : tie.Need-fresh-state-requires
+fresh-state-requires c κs = search needs
+
+table-keeps-requires : tie.Need-table-keeps-requires
+table-keeps-requires c κs = search needs
+
+returns : tie.Need-returns
+returns c =
+    rw (c .before .before .fresh-state .ensures)
+    (start-taken (c .before .before .before .args .t) (sym (c .before .table-keeps .ensures) ∙ c .if1 .taken))
+
+returns-2 : tie.Need-returns-2
+returns-2 c =
+    rw (c .before .before .fresh-state .ensures)
+    (start-unsound (c .before .before .before .args .t) (sym (c .before .table-keeps .ensures) ∙ c .if1 .left))
+
+pub start-spec : {M : Type 1} → statement M
+start-spec = tie.close (tie.spec fresh-state-requires table-keeps-requires returns returns-2)

@@ -1,0 +1,7 @@
+pub mod Parts
+pub mod Settle
+pub mod Choose
+pub mod Advance
+pub mod Events
+pub mod Sound
+pub mod Serve
