@@ -1,0 +1,122 @@
+// night TABLE EVENTS: the answers to an event file, from a fresh start with a table. (01, One night in full.) The file is read through a small
+// buffer; the line that is not closed yet is held, so the cutting into reads does not show.
+
+use lines::Held;
+use run::Run;
+
+// A night so far: the run, the line that is held, and whether all could be read and written.
+struct Night {
+    run: Run,
+    held: Held,
+    going: bool,
+}
+
+// Some bytes of the event file, answered as far as the room goes, and how many they were.
+struct Some {
+    night: Night,
+    eaten: usize,
+}
+
+fn answer_some(n: Night, bytes: &[u8]) -> Some {
+    let mut room = [0u8; 65536];
+    let r = n.run;
+    let h = n.held;
+    let s = scheduler::serve::serve(r, h, bytes, &mut room);
+    let run = s.run;
+    let held = s.held;
+    let put = s.put;
+    let going = files::write_first(&room, put);
+    Some {
+        night: Night { run, held, going },
+        eaten: s.eaten,
+    }
+}
+
+// All of a piece. Each turn takes at least one byte, since the room is large enough for an answer.
+fn answer_piece(n: Night, bytes: &[u8]) -> Night {
+    let mut night = n;
+    let mut at = 0;
+    while at < bytes.len() && night.going {
+        let s = answer_some(night, &bytes[at..]);
+        night = s.night;
+        let eaten = s.eaten;
+        if eaten == 0 {
+            return night;
+        }
+        if bytes.len() - at < eaten {
+            return night;
+        }
+        at += eaten;
+    }
+    night
+}
+
+// "or an unclosed last one": it is answered as another line.
+fn answer_last(n: Night) {
+    let h = n.held;
+    let mut line = [0u8; 64];
+    if 0 < h.len {
+        let k = lines::answer::put_another(&mut line, 0);
+        files::write_first(&line, k);
+    }
+}
+
+// Reads once and answers; the night goes on as long as something was read.
+fn next_piece(n: Night, fd: i32) -> Night {
+    let mut buf = [0u8; 16384];
+    let got = files::take_piece(fd, &mut buf);
+    let k = got.len;
+    let mut night = n;
+    if !got.whole {
+        night.going = false;
+        return night;
+    }
+    if k == 0 {
+        answer_last(night);
+        night.going = false;
+        return night;
+    }
+    answer_piece(night, &buf[..k])
+}
+
+// A proved loop has to end, and nothing says that a file does: the turns are counted down from a number that no file uses up.
+fn answer_all(n: Night, fd: i32) {
+    let mut night = n;
+    let mut turns = u64::MAX;
+    while 0 < turns && night.going {
+        night = next_piece(night, fd);
+        turns -= 1;
+    }
+}
+
+fn main() {
+    if !files::called_with(3, b"night TABLE EVENTS") {
+        return;
+    }
+    let table = files::open_argument(1);
+    if table < 0 {
+        return;
+    }
+    let events = files::open_argument(2);
+    if events < 0 {
+        return;
+    }
+    let given = files::given::take_table(table);
+    if !given.there {
+        return;
+    }
+    let t = given.table;
+    let started = scheduler::start(t);
+    let run = started.run;
+    answer_all(
+        Night {
+            run,
+            held: Held {
+                bytes: [0; 13],
+                len: 0,
+            },
+            going: true,
+        },
+        events,
+    );
+}

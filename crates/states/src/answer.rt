@@ -1,0 +1,245 @@
+// What the library answers to a block, as the format prints it.
+
+use crate::block::Block;
+use crate::block::Operation;
+use crate::part;
+use number::put::put_all;
+use number::put::put_byte;
+use number::put::put_number;
+use run::Answer;
+use run::Answered;
+use run::Last;
+use run::Left;
+use run::Run;
+use run::State;
+use run::TickAnswer;
+use run::Turn;
+use table::Mode;
+use table::Refusal;
+use table::SERVERS;
+use table::TASKS;
+use table::Table;
+use text::Writing;
+use verdict::Verdict;
+ghost use Prim.Native.Nat.{_≤_};
+
+// No answer is longer: 98 lines, or the text of a table.
+const LONGEST: usize = 16384;
+// What a room holds before it is lent.
+const BEFORE: u8 = b'~';
+
+// A word and then numbers, as a line.
+fn put_line(word: &[u8], numbers: &[u64], room: &mut [u8], at: usize) -> usize {
+    let mut k = put_all(word, room, at);
+    for i in 0..numbers.len() {
+        k = put_byte(number::TAB, room, k);
+        k = put_number(numbers[i], room, k);
+    }
+    put_byte(number::LINE_FEED, room, k)
+}
+
+fn say_line(word: &[u8], numbers: &[u64]) -> bool {
+    let mut room = [0u8; LONGEST];
+    let n = put_line(word, numbers, &mut room, 0);
+    files::write_first(&room, n)
+}
+
+fn say_no(why: Refusal) -> bool {
+    say_line(b"no", &[table::number_of(why)])
+}
+
+fn say_verdict(t: Table, row: usize, m: Mode) -> bool {
+    match verdict::verdict_of(t, row, m) {
+        Verdict::Response(r) => say_line(b"verdict", &[1, r.0 as u64]),
+        Verdict::Misses => say_line(b"verdict", &[0, 0]),
+        Verdict::No(why) => say_no(why),
+    }
+}
+
+// Whether the room still holds what it did from a place on.
+fn is_kept(room: &[u8], from: usize) -> bool {
+    for i in from..room.len() {
+        if room[i] != BEFORE {
+            return false;
+        }
+    }
+    true
+}
+
+// The writer, lent as many bytes of the room as are asked for. The longest text is far shorter than the room.
+fn write_in(t: Table, size: usize, room: &mut [u8]) -> Writing {
+    let lent = part::first(size, room);
+    text::write::write_table(t, &mut room[..lent])
+}
+
+// "A writer changes nothing beyond the text", and a refused one nothing at all: what no answer of the format could say is said too.
+fn say_written(t: Table, size: usize) -> bool {
+    let mut room = [BEFORE; LONGEST];
+    match write_in(t, size, &mut room) {
+        Writing::Written(many) => {
+            if !is_kept(&room, many) {
+                return say_line(b"changed beyond the text", &[]);
+            }
+            if !say_line(b"write", &[many as u64]) {
+                return false;
+            }
+            files::write_first(&room, many)
+        }
+        Writing::Refused(why) => {
+            if !is_kept(&room, 0) {
+                return say_line(b"changed though refused", &[]);
+            }
+            say_no(why)
+        }
+    }
+}
+
+fn mode_number(m: Mode) -> u64 {
+    match m {
+        Mode::N => 0,
+        Mode::D1 => 1,
+        Mode::D2 => 2,
+    }
+}
+
+// How many of a state's rows are shown: those in use.
+fn shown(n: usize, most: usize) -> usize
+    ensures { λ r. ⌜ r ≤ most ⌝ }
+{
+    if n <= most { n } else { most }
+}
+
+fn put_head(s: State, room: &mut [u8], at: usize) -> usize {
+    let m = s.mode;
+    let mode = mode_number(m);
+    let last = s.last;
+    let ticks = s.ticks as u64;
+    let accepted = s.accepted as u64;
+    match last {
+        Last::NoJob => put_line(b"state", &[mode, ticks, accepted, 0, 0], room, at),
+        Last::Job(k) => put_line(b"state", &[mode, ticks, accepted, 1, k as u64], room, at),
+    }
+}
+
+fn put_budget(used: u32, elapsed: u32, room: &mut [u8], at: usize) -> usize {
+    put_line(b"budget", &[used as u64, elapsed as u64], room, at)
+}
+
+fn put_queue(waiting: u8, runs: u32, room: &mut [u8], at: usize) -> usize {
+    put_line(b"queue", &[waiting as u64, runs as u64], room, at)
+}
+
+fn put_budgets(s: State, n: usize, room: &mut [u8], at: usize) -> usize {
+    let mut k = at;
+    for i in 0..shown(n, SERVERS) {
+        k = put_budget(s.used[i], s.elapsed[i], room, k);
+    }
+    k
+}
+
+fn put_queues(s: State, n: usize, room: &mut [u8], at: usize) -> usize {
+    let mut k = at;
+    for i in 0..shown(n, TASKS) {
+        k = put_queue(s.waiting[i], s.runs[i], room, k);
+    }
+    k
+}
+
+// After the line of what was taken, the next state.
+fn say_state(word: &[u8], numbers: &[u64], r: Run) -> bool {
+    let t = r.table;
+    let s = r.state;
+    let mut room = [0u8; LONGEST];
+    let k = put_line(word, numbers, &mut room, 0);
+    let k = put_head(s, &mut room, k);
+    let k = put_budgets(s, t.nservers, &mut room, k);
+    let k = put_queues(s, t.ntasks, &mut room, k);
+    files::write_first(&room, k)
+}
+
+fn what_of(turn: Turn) -> u64 {
+    match turn {
+        Turn::Run { server: _, task: _ } => 2,
+        Turn::Empty { server: _ } => 1,
+        Turn::Idle => 0,
+    }
+}
+
+fn server_of(turn: Turn) -> u64 {
+    match turn {
+        Turn::Run { server, task: _ } => server as u64,
+        Turn::Empty { server } => server as u64,
+        Turn::Idle => 0,
+    }
+}
+
+fn task_of(turn: Turn) -> u64 {
+    match turn {
+        Turn::Run { server: _, task } => task as u64,
+        Turn::Empty { server: _ } => 0,
+        Turn::Idle => 0,
+    }
+}
+
+fn how_of(left: Left) -> u64 {
+    match left {
+        Left::Nobody => 0,
+        Left::Done(_) => 1,
+        Left::Cut(_) => 2,
+    }
+}
+
+fn left_task(left: Left) -> u64 {
+    match left {
+        Left::Nobody => 0,
+        Left::Done(k) => k as u64,
+        Left::Cut(k) => k as u64,
+    }
+}
+
+fn say_tick(a: TickAnswer, r: Run) -> bool {
+    let m = a.mode;
+    let mode = mode_number(m);
+    let turn = a.turn;
+    let left = a.left;
+    say_state(
+        b"tick",
+        &[
+            a.tick as u64,
+            mode,
+            what_of(turn),
+            server_of(turn),
+            task_of(turn),
+            how_of(left),
+            left_task(left),
+            a.discarded as u64,
+        ],
+        r,
+    )
+}
+
+fn say_answered(a: Answered) -> bool {
+    let answer = a.answer;
+    let r = a.run;
+    match answer {
+        Answer::Started => say_state(b"fresh", &[], r),
+        Answer::Released(_) => say_state(b"release", &[], r),
+        Answer::Ticked(t) => say_tick(t, r),
+        Answer::No(why) => say_no(why),
+    }
+}
+
+// Whether the answer was written.
+pub fn say_answer(b: Block, asked: Operation) -> bool {
+    let t = b.table;
+    let s = b.state;
+    let r = Run { table: t, state: s };
+    match asked {
+        Operation::Fresh => say_answered(scheduler::start(t)),
+        Operation::Release(task) => say_answered(scheduler::release(r, task)),
+        Operation::Tick(mark) => say_answered(scheduler::tick(r, mark)),
+        Operation::Verdict(row, m) => say_verdict(t, row, m),
+        Operation::Write(size) => say_written(t, size),
+        Operation::Nothing => true,
+    }
+}
