@@ -1,0 +1,220 @@
+//! Runs two sets of programs over the same cases and compares what they print.
+
+use std::collections::BTreeMap;
+use std::fs;
+use std::path::{Path, PathBuf};
+use std::process::{Command, Output, Stdio};
+use std::sync::atomic::{AtomicBool, AtomicU64, Ordering};
+use std::sync::Mutex;
+use std::thread;
+
+use crate::case::Case;
+use crate::coverage::Coverage;
+
+const PROGRAMS: [&str; 3] = ["night", "verdicts", "rewrite"];
+
+pub struct Options {
+    /// The folder with the executables `night`, `verdicts` and `rewrite`.
+    pub first: PathBuf,
+    /// The `second` binary.
+    pub second: PathBuf,
+    pub seed: u64,
+    pub count: u64,
+    /// Where the files of differing cases are kept.
+    pub keep: Option<PathBuf>,
+    pub threads: u64,
+}
+
+/// What all workers add to.
+#[derive(Default)]
+struct Totals {
+    coverage: Coverage,
+    names: BTreeMap<String, u64>,
+    passed: u64,
+    failed: u64,
+}
+
+/// Compares all cases; gives whether all passed and nothing was left unseen.
+pub fn compare(options: &Options) -> Result<bool, String> {
+    println!("seed {}, {} cases", options.seed, options.count);
+    let folder = std::env::temp_dir().join(format!("cases-{}", std::process::id()));
+    let totals = Mutex::new(Totals::default());
+    let next = AtomicU64::new(0);
+    let stop = AtomicBool::new(false);
+
+    let outcome = thread::scope(|scope| {
+        let mut workers = Vec::new();
+        for worker in 0..options.threads {
+            let folder = folder.join(worker.to_string());
+            let (totals, next, stop) = (&totals, &next, &stop);
+            workers.push(scope.spawn(move || {
+                let outcome = work(options, &folder, totals, next, stop);
+                if outcome.is_err() {
+                    stop.store(true, Ordering::Relaxed);
+                }
+                outcome
+            }));
+        }
+        let mut outcome = Ok(());
+        for worker in workers {
+            outcome = outcome.and(worker.join().expect("a worker does not panic"));
+        }
+        outcome
+    });
+    let _ = fs::remove_dir_all(&folder);
+    outcome?;
+
+    let totals = totals.into_inner().expect("no worker panicked");
+    println!("cases by kind:");
+    for (name, count) in &totals.names {
+        println!("{count:>10}  {name}");
+    }
+    let complete = totals.coverage.print();
+    println!("{} passed, {} failed", totals.passed, totals.failed);
+    Ok(totals.failed == 0 && complete)
+}
+
+/// Takes cases until none is left.
+fn work(
+    options: &Options,
+    folder: &Path,
+    totals: &Mutex<Totals>,
+    next: &AtomicU64,
+    stop: &AtomicBool,
+) -> Result<(), String> {
+    fs::create_dir_all(folder).map_err(|error| failed("make", folder, &error))?;
+    while !stop.load(Ordering::Relaxed) {
+        let number = next.fetch_add(1, Ordering::Relaxed);
+        if number >= options.count {
+            break;
+        }
+        let case = Case::make(options.seed, number);
+        case.write_to(folder).map_err(|error| failed("write to", folder, &error))?;
+        let runs = run_all(options, folder)?;
+
+        let mut coverage = Coverage::default();
+        coverage.case(&case.name, &runs[0].second.stdout);
+        for (program, run) in PROGRAMS.iter().zip(&runs) {
+            let output = &run.second.stdout;
+            match *program {
+                "night" => coverage.night(output),
+                "verdicts" => coverage.verdicts(output),
+                _ => coverage.rewrite(&case.table, output),
+            }
+        }
+        let differences: Vec<String> = PROGRAMS
+            .iter()
+            .zip(&runs)
+            .filter_map(|(program, run)| Some(format!("  {program}: {}", run.difference()?)))
+            .collect();
+
+        let mut totals = totals.lock().expect("no worker panicked");
+        totals.coverage.add(&coverage);
+        *totals.names.entry(kind_of(&case.name).to_string()).or_insert(0) += 1;
+        if differences.is_empty() {
+            totals.passed += 1;
+            continue;
+        }
+        totals.failed += 1;
+        println!("seed {} case {number} {} differs", options.seed, case.name);
+        for difference in differences {
+            println!("{difference}");
+        }
+        if let Some(keep) = &options.keep {
+            keep_case(keep, options.seed, number, &case, &runs)?;
+        }
+    }
+    Ok(())
+}
+
+/// The first part of a case's name: `good`, `pair` or the number it is after.
+fn kind_of(name: &str) -> &str {
+    name.split('-').next().unwrap_or(name)
+}
+
+/// What the two programs of one name made of a case.
+struct Run {
+    first: Output,
+    second: Output,
+}
+
+impl Run {
+    /// The first difference, in words.
+    fn difference(&self) -> Option<String> {
+        for (who, output) in [("first", &self.first), ("second", &self.second)] {
+            // No status code: ended by a signal. 101: ended by a panic.
+            if matches!(output.status.code(), None | Some(101)) {
+                let errors = String::from_utf8_lossy(&output.stderr);
+                let words = errors.lines().next().unwrap_or("").to_string();
+                return Some(format!("the {who} broke off ({}) {words}", output.status));
+            }
+        }
+        if self.first.stdout == self.second.stdout {
+            return None;
+        }
+        let mut first = self.first.stdout.split_inclusive(|&byte| byte == b'\n');
+        let mut second = self.second.stdout.split_inclusive(|&byte| byte == b'\n');
+        let mut line = 1;
+        loop {
+            let (one, other) = (first.next(), second.next());
+            if one != other {
+                return Some(format!("line {line}: first {}, second {}", show(one), show(other)));
+            }
+            line += 1;
+        }
+    }
+}
+
+fn show(line: Option<&[u8]>) -> String {
+    match line {
+        None => "has no such line".to_string(),
+        Some(line) => {
+            let shown: String = line.escape_ascii().to_string().chars().take(200).collect();
+            format!("\"{shown}\"")
+        }
+    }
+}
+
+fn run_all(options: &Options, folder: &Path) -> Result<Vec<Run>, String> {
+    let mut runs = Vec::new();
+    for program in PROGRAMS {
+        let mut first = Command::new(options.first.join(program));
+        let mut second = Command::new(&options.second);
+        second.arg(program);
+        runs.push(Run {
+            first: run_one(&mut first, program, folder)?,
+            second: run_one(&mut second, program, folder)?,
+        });
+    }
+    Ok(runs)
+}
+
+fn run_one(command: &mut Command, program: &str, folder: &Path) -> Result<Output, String> {
+    command.arg(folder.join("table"));
+    if program == "night" {
+        command.arg(folder.join("events"));
+    }
+    command
+        .stdin(Stdio::null())
+        .output()
+        .map_err(|error| failed("run", Path::new(command.get_program()), &error))
+}
+
+fn keep_case(keep: &Path, seed: u64, number: u64, case: &Case, runs: &[Run]) -> Result<(), String> {
+    let folder = keep.join(format!("{seed}-{number}"));
+    let write = || {
+        fs::create_dir_all(&folder)?;
+        case.write_to(&folder)?;
+        fs::write(folder.join("name"), format!("{}\n", case.name))?;
+        for (program, run) in PROGRAMS.iter().zip(runs) {
+            fs::write(folder.join(format!("{program}.first")), &run.first.stdout)?;
+            fs::write(folder.join(format!("{program}.second")), &run.second.stdout)?;
+        }
+        Ok(())
+    };
+    write().map_err(|error: std::io::Error| failed("write to", &folder, &error))
+}
+
+fn failed(what: &str, path: &Path, error: &std::io::Error) -> String {
+    format!("cannot {what} {}: {error}", path.display())
+}

@@ -1,0 +1,186 @@
+//! What was seen in the answers, counted over all cases.
+
+use std::collections::BTreeMap;
+
+/// The counts that must not be 0.
+const WANTED: [&str; 31] = [
+    "table taken",
+    "table no 1",
+    "table no 2",
+    "table no 2 at line 0",
+    "table no 3",
+    "table no 4",
+    "table no 5",
+    "event no 1",
+    "release ok",
+    "release no 6",
+    "release no 7",
+    "release no 8",
+    "tick no 9",
+    "mode N",
+    "mode D1",
+    "mode D2",
+    "run",
+    "empty",
+    "idle",
+    "left done",
+    "left cut",
+    "left none",
+    "discards",
+    "rise to D1",
+    "rise to D2 from N",
+    "rise to D2 from D1",
+    "rise taken back",
+    "back to N",
+    "no events",
+    "verdict response",
+    "verdict misses",
+];
+
+#[derive(Default)]
+pub struct Coverage {
+    counts: BTreeMap<&'static str, u64>,
+}
+
+impl Coverage {
+    fn count(&mut self, what: &'static str) {
+        *self.counts.entry(what).or_insert(0) += 1;
+    }
+
+    pub fn add(&mut self, other: &Coverage) {
+        for (what, count) in &other.counts {
+            *self.counts.entry(what).or_insert(0) += count;
+        }
+    }
+
+    /// Counts a case by whether its table was taken, as its name has it.
+    pub fn case(&mut self, name: &str, night: &[u8]) {
+        let good = name.starts_with("good-");
+        let taken = !night.starts_with(b"table\t");
+        self.count(match (good, taken) {
+            (true, true) => "good table taken",
+            (true, false) => "good table refused",
+            (false, true) => "damaged table taken",
+            (false, false) => "damaged table refused",
+        });
+    }
+
+    /// Counts the answers of a night.
+    pub fn night(&mut self, output: &[u8]) {
+        let text = String::from_utf8_lossy(output);
+        if text.is_empty() {
+            self.count("no events");
+        }
+        let mut mode_before = "N";
+        for line in text.lines() {
+            let fields: Vec<&str> = line.split('\t').collect();
+            match fields.as_slice() {
+                ["table", "no", number, at, ..] => {
+                    self.table_refused(number, at);
+                    return;
+                }
+                ["?", "no", "1"] => self.count("event no 1"),
+                ["R", _, "ok"] => self.count("release ok"),
+                ["R", _, "no", "6"] => self.count("release no 6"),
+                ["R", _, "no", "7"] => self.count("release no 7"),
+                ["R", _, "no", "8"] => self.count("release no 8"),
+                ["T", "no", "9"] => self.count("tick no 9"),
+                ["T", _, mode, what, _, _, how, _, discarded] => {
+                    self.tick(mode_before, mode, what, how, discarded);
+                    mode_before = mode;
+                }
+                _ => self.count("other answers"),
+            }
+        }
+        self.count("table taken");
+    }
+
+    fn table_refused(&mut self, number: &str, at: &str) {
+        self.count(match (number, at) {
+            ("1", _) => "table no 1",
+            ("2", "0") => "table no 2 at line 0",
+            ("2", _) => "table no 2",
+            ("3", _) => "table no 3",
+            ("4", _) => "table no 4",
+            ("5", _) => "table no 5",
+            _ => "other answers",
+        });
+    }
+
+    fn tick(&mut self, mode_before: &str, mode: &str, what: &str, how: &str, discarded: &str) {
+        self.count(match mode {
+            "N" => "mode N",
+            "D1" => "mode D1",
+            "D2" => "mode D2",
+            _ => "other answers",
+        });
+        self.count(match what {
+            "run" => "run",
+            "empty" => "empty",
+            "idle" => "idle",
+            _ => "other answers",
+        });
+        self.count(match how {
+            "done" => "left done",
+            "cut" => "left cut",
+            "-" => "left none",
+            _ => "other answers",
+        });
+        if discarded != "0" {
+            self.count("discards");
+        }
+        match (mode_before, mode) {
+            ("N", "D1") => self.count("rise to D1"),
+            ("N", "D2") => self.count("rise to D2 from N"),
+            ("D1", "D2") => self.count("rise to D2 from D1"),
+            ("D1" | "D2", "N") => self.count("back to N"),
+            // A job is cut in D1 and D2 only.
+            ("N", "N") if how == "cut" => self.count("rise taken back"),
+            _ => {}
+        }
+    }
+
+    /// Counts the verdicts of a table.
+    pub fn verdicts(&mut self, output: &[u8]) {
+        for line in String::from_utf8_lossy(output).lines() {
+            let fields: Vec<&str> = line.split('\t').collect();
+            if fields.len() != 4 || fields[0] == "table" {
+                continue;
+            }
+            for verdict in &fields[1..] {
+                self.count(match *verdict {
+                    "misses" => "verdict misses",
+                    "0" => "verdict 0",
+                    _ => "verdict response",
+                });
+            }
+        }
+    }
+
+    /// Counts a table written back, by whether it is the text that was read.
+    pub fn rewrite(&mut self, table: &[u8], output: &[u8]) {
+        if output == table {
+            self.count("rewritten the same");
+        } else if !output.starts_with(b"table\t") {
+            self.count("rewritten otherwise");
+        }
+    }
+
+    /// Prints all counts; gives whether none of the wanted is 0.
+    pub fn print(&self) -> bool {
+        println!("seen in the answers:");
+        let mut complete = true;
+        for what in WANTED {
+            let count = self.counts.get(what).copied().unwrap_or(0);
+            let remark = if count == 0 { "  (must not be 0)" } else { "" };
+            println!("{count:>10}  {what}{remark}");
+            complete &= count > 0;
+        }
+        for (what, count) in &self.counts {
+            if !WANTED.contains(what) {
+                println!("{count:>10}  {what}");
+            }
+        }
+        complete
+    }
+}

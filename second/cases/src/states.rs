@@ -1,0 +1,371 @@
+//! Runs two `states` programs over the same blocks and compares what they print.
+
+use std::collections::BTreeMap;
+use std::fs;
+use std::path::{Path, PathBuf};
+use std::process::{Command, Output, Stdio};
+
+use crate::block::Block;
+use crate::random::Random;
+use crate::table;
+use crate::unsound;
+
+/// Few files, so that few programs are started.
+const BLOCKS_IN_FILE: u64 = 200;
+
+/// The counts that must not be 0, beside one for each clause broken.
+const WANTED: [&str; 29] = [
+    "fresh taken",
+    "release taken",
+    "tick taken",
+    "verdict response",
+    "verdict misses",
+    "write taken",
+    "fresh no 13",
+    "release no 6",
+    "release no 7",
+    "release no 8",
+    "release no 10",
+    "release no 13",
+    "tick no 9",
+    "tick no 10",
+    "tick no 13",
+    "verdict no 11",
+    "verdict no 13",
+    "write no 12",
+    "write no 13",
+    "tick run",
+    "tick empty",
+    "tick idle",
+    "tick in which a job left done",
+    "tick in which a job left cut",
+    "tick with discards",
+    "tick with a rise",
+    "tick with a rise taken back",
+    "tick back in N",
+    "tick 3999999999",
+];
+
+pub struct Options {
+    /// The folder with the executable `states`.
+    pub first: PathBuf,
+    /// The `second` binary.
+    pub second: PathBuf,
+    pub seed: u64,
+    pub count: u64,
+    /// Where files with differing blocks are kept.
+    pub keep: Option<PathBuf>,
+}
+
+/// A block of a file, as it was made.
+struct Made {
+    number: u64,
+    block: Block,
+    text: String,
+}
+
+#[derive(Default)]
+struct Totals {
+    seen: BTreeMap<String, u64>,
+    passed: u64,
+    failed: u64,
+}
+
+/// Compares all blocks; gives whether all passed and nothing was left unseen.
+pub fn compare(options: &Options) -> Result<bool, String> {
+    println!("seed {}, {} blocks", options.seed, options.count);
+    let folder = std::env::temp_dir().join(format!("states-{}", std::process::id()));
+    fs::create_dir_all(&folder).map_err(|error| failed("make", &folder, &error))?;
+    let mut totals = Totals::default();
+    let mut outcome = Ok(());
+    let mut from = 0;
+    while from < options.count && outcome.is_ok() {
+        let to = options.count.min(from + BLOCKS_IN_FILE);
+        outcome = compare_file(options, &folder, from, to, &mut totals);
+        from = to;
+    }
+    let _ = fs::remove_dir_all(&folder);
+    outcome?;
+
+    let complete = totals.print();
+    println!("{} passed, {} failed", totals.passed, totals.failed);
+    Ok(totals.failed == 0 && complete)
+}
+
+/// The block of a seed with a number, always the same one.
+fn make(seed: u64, number: u64) -> Made {
+    let mut random = Random::for_case(seed, number);
+    let random = &mut random;
+    let mut block = match random.below(20) {
+        0..=4 => Block::sound(&table::small(random), "sound-small", random),
+        5 | 6 => Block::at_limit(table::small(random), random),
+        7 => Block::sound(&table::middle(random), "sound-middle", random),
+        8 | 9 => {
+            let (table, bound) = table::at_bound(random);
+            Block::sound(&table, &format!("sound-{bound}"), random)
+        }
+        10..=17 => unsound::one_fault(random),
+        _ => unsound::two_faults(random),
+    };
+    block.pad(random);
+    let text = block.text(random);
+    Made { number, block, text }
+}
+
+fn compare_file(
+    options: &Options,
+    folder: &Path,
+    from: u64,
+    to: u64,
+    totals: &mut Totals,
+) -> Result<(), String> {
+    let made: Vec<Made> = (from..to).map(|number| make(options.seed, number)).collect();
+    let mut text = String::new();
+    for Made { number, block, text: lines } in &made {
+        text += &format!("# block {number} {}\n{lines}\n", block.name);
+    }
+    let file = folder.join("blocks");
+    fs::write(&file, &text).map_err(|error| failed("write", &file, &error))?;
+
+    let first = run(Command::new(options.first.join("states")).arg(&file))?;
+    let second = run(Command::new(&options.second).arg("states").arg(&file))?;
+    let failed_before = totals.failed;
+    for (who, output) in [("first", &first), ("second", &second)] {
+        if let Some(words) = broke_off(output) {
+            totals.failed += 1;
+            println!("seed {} blocks {from} to {}: the {who} {words}", options.seed, to - 1);
+        }
+    }
+    compare_answers(options.seed, &made, &first.stdout, &second.stdout, totals);
+    if let (Some(keep), true) = (&options.keep, totals.failed > failed_before) {
+        let folder = keep.join(format!("states-{}-{from}", options.seed));
+        keep_file(&folder, &text, &first.stdout, &second.stdout)
+            .map_err(|error| failed("write to", &folder, &error))?;
+    }
+    Ok(())
+}
+
+/// Compares the two outputs answer by answer, a block each.
+fn compare_answers(seed: u64, made: &[Made], first: &[u8], second: &[u8], totals: &mut Totals) {
+    let (mut ones, mut others) = (answers(first).into_iter(), answers(second).into_iter());
+    for Made { number, block, .. } in made {
+        let (one, other) = (ones.next(), others.next());
+        totals.see(block, other);
+        match difference(block, one, other) {
+            None => totals.passed += 1,
+            Some(words) => {
+                totals.failed += 1;
+                println!("seed {seed} block {number} {} differs\n  {words}", block.name);
+            }
+        }
+    }
+    if ones.next().is_some() || others.next().is_some() {
+        totals.failed += 1;
+        println!("seed {seed}: more is said than asked");
+    }
+}
+
+/// Whether a program ended otherwise than it should, in words.
+fn broke_off(output: &Output) -> Option<String> {
+    if output.status.success() && output.stderr.is_empty() {
+        return None;
+    }
+    let words = String::from_utf8_lossy(&output.stderr);
+    Some(format!("broke off ({}) {}", output.status, words.lines().next().unwrap_or("")))
+}
+
+fn run(command: &mut Command) -> Result<Output, String> {
+    command
+        .stdin(Stdio::null())
+        .output()
+        .map_err(|error| failed("run", Path::new(command.get_program()), &error))
+}
+
+fn keep_file(folder: &Path, text: &str, first: &[u8], second: &[u8]) -> std::io::Result<()> {
+    fs::create_dir_all(folder)?;
+    fs::write(folder.join("blocks"), text)?;
+    fs::write(folder.join("first"), first)?;
+    fs::write(folder.join("second"), second)
+}
+
+/// The answers one by one. The state's lines belong to the answer before them,
+/// and so do as many bytes as a `write` line says.
+fn answers(output: &[u8]) -> Vec<&[u8]> {
+    let mut answers = Vec::new();
+    let mut rest = output;
+    while !rest.is_empty() {
+        let line = first_line(rest);
+        let mut length = line.len();
+        if let Some(bytes) = numbers_of(line, b"write").and_then(|numbers| numbers.first().copied())
+        {
+            length += (bytes as usize).min(rest.len() - length);
+        } else {
+            while is_state_line(first_line(&rest[length..])) {
+                length += first_line(&rest[length..]).len();
+            }
+        }
+        let (answer, after) = rest.split_at(length);
+        answers.push(answer);
+        rest = after;
+    }
+    answers
+}
+
+/// The first line, with its line feed.
+fn first_line(text: &[u8]) -> &[u8] {
+    match text.iter().position(|&byte| byte == b'\n') {
+        Some(end) => &text[..=end],
+        None => text,
+    }
+}
+
+fn is_state_line(line: &[u8]) -> bool {
+    [&b"state\t"[..], b"budget\t", b"queue\t"].iter().any(|word| line.starts_with(word))
+}
+
+/// The numbers of a line that begins with the word.
+fn numbers_of(line: &[u8], word: &[u8]) -> Option<Vec<u64>> {
+    let line = std::str::from_utf8(line).ok()?.strip_suffix('\n')?;
+    let mut fields = line.split('\t');
+    if fields.next()?.as_bytes() != word {
+        return None;
+    }
+    fields.map(|field| field.parse().ok()).collect()
+}
+
+/// The first difference in words: between the two, or from the 13 that a broken
+/// block must bring and no other may.
+fn difference(block: &Block, first: Option<&[u8]>, second: Option<&[u8]>) -> Option<String> {
+    if first != second {
+        let mut ones = first.unwrap_or_default().split_inclusive(|&byte| byte == b'\n');
+        let mut others = second.unwrap_or_default().split_inclusive(|&byte| byte == b'\n');
+        for line in 1.. {
+            let (one, other) = (ones.next(), others.next());
+            if one != other {
+                return Some(format!("line {line}: first {}, second {}", show(one), show(other)));
+            }
+        }
+    }
+    match (block.must_be_13(), second == Some(b"no\t13\n")) {
+        (true, false) => Some(format!("must be 13, both say {}", show(second))),
+        (false, true) => Some("is sound, both say 13".to_string()),
+        _ => None,
+    }
+}
+
+fn show(line: Option<&[u8]>) -> String {
+    match line {
+        None => "has no such line".to_string(),
+        Some(line) => {
+            let shown: String = line.escape_ascii().to_string().chars().take(200).collect();
+            format!("\"{shown}\"")
+        }
+    }
+}
+
+fn failed(what: &str, path: &Path, error: &std::io::Error) -> String {
+    format!("cannot {what} {}: {error}", path.display())
+}
+
+impl Totals {
+    fn count(&mut self, what: &str) {
+        *self.seen.entry(what.to_string()).or_insert(0) += 1;
+    }
+
+    /// Counts what was answered to a block.
+    fn see(&mut self, block: &Block, answer: Option<&[u8]>) {
+        let line = first_line(answer.unwrap_or_default());
+        let asked = block.operation.word();
+        if let Some(numbers) = numbers_of(line, b"no") {
+            self.count(&format!("{asked} no {}", numbers[0]));
+            if numbers == [13] {
+                self.count(&broken(&block.name));
+            }
+        } else if let Some(numbers) = numbers_of(line, b"verdict") {
+            let is_met = numbers.first() == Some(&1);
+            self.count(if is_met { "verdict response" } else { "verdict misses" });
+        } else {
+            self.count(&format!("{asked} taken"));
+        }
+        if let Some([tick, mode, what, _, _, how, _, discarded]) =
+            numbers_of(line, b"tick").as_deref()
+        {
+            self.count(["tick idle", "tick empty", "tick run"][(*what as usize).min(2)]);
+            self.see_modes(block.mode, *mode as usize, *how, *discarded);
+            if *tick == 3_999_999_999 {
+                self.count("tick 3999999999");
+            }
+        }
+    }
+
+    fn see_modes(&mut self, before: usize, mode: usize, how: u64, discarded: u64) {
+        match how {
+            0 => {}
+            1 => self.count("tick in which a job left done"),
+            _ => self.count("tick in which a job left cut"),
+        }
+        if discarded > 0 {
+            self.count("tick with discards");
+        }
+        if before < mode {
+            self.count("tick with a rise");
+        }
+        if mode < before {
+            self.count("tick back in N");
+        }
+        // In N no job is cut and none discarded.
+        if before == 0 && mode == 0 && (how == 2 || discarded > 0) {
+            self.count("tick with a rise taken back");
+        }
+    }
+
+    /// Prints all counts; gives whether none of the wanted is 0.
+    fn print(&self) -> bool {
+        println!("seen in the answers:");
+        let clauses = unsound::names().map(broken);
+        let wanted: Vec<String> =
+            WANTED.iter().map(|what| what.to_string()).chain(clauses).collect();
+        let mut complete = true;
+        for what in &wanted {
+            let count = self.seen.get(what).copied().unwrap_or(0);
+            let remark = if count == 0 { "  (must not be 0)" } else { "" };
+            println!("{count:>10}  {what}{remark}");
+            complete &= count > 0;
+        }
+        let two: u64 = self
+            .seen
+            .iter()
+            .filter(|(what, _)| !wanted.contains(what))
+            .map(|(_, count)| count)
+            .sum();
+        println!("{two:>10}  13 for two clauses, and other answers");
+        complete
+    }
+}
+
+/// What is counted where a broken clause is refused.
+fn broken(name: &str) -> String {
+    format!("13 for {name}")
+}
+
+#[cfg(test)]
+mod tests {
+    use super::{answers, make};
+
+    #[test]
+    fn a_block_is_the_same_every_time() {
+        for number in 0..500 {
+            let (one, other) = (make(5, number), make(5, number));
+            assert_eq!(one.block.name, other.block.name);
+            assert_eq!(one.text, other.text);
+        }
+    }
+
+    #[test]
+    fn answers_are_told_apart() {
+        let output = b"no\t13\nwrite\t9\ntick\t100\nfresh\nstate\t0\nqueue\t0\t0\nno\t6\n";
+        let wanted: [&[u8]; 4] =
+            [b"no\t13\n", b"write\t9\ntick\t100\n", b"fresh\nstate\t0\nqueue\t0\t0\n", b"no\t6\n"];
+        assert_eq!(answers(output), wanted);
+    }
+}

@@ -1,0 +1,33 @@
+#!/bin/sh
+# Puts each slip of this folder into a scratch copy of `second`, builds it, and
+# lets `cases compare` look for it. Prints a line for each slip: its name, how
+# many of the cases caught it, the first such case.
+#   slips/run.sh [SEED [COUNT [SLIP...]]]
+# Wants both packages built with `cargo build --release`.
+set -eu
+cd "$(dirname "$0")/.."
+seed=${1:-1}
+count=${2:-2000}
+if [ $# -gt 2 ]; then shift 2; else set -- slips/*.patch; fi
+
+scratch=target/slips
+root=$PWD
+mkdir -p "$scratch"
+for patch in "$@"; do
+    name=$(basename "$patch" .patch)
+    copy=$scratch/copy
+    rm -rf "$copy"
+    mkdir -p "$copy"
+    cp -r Cargo.toml Cargo.lock src "$copy"
+    patch -s -p1 -d "$copy" < "slips/$name.patch"
+    (cd "$copy" && CARGO_TARGET_DIR="$root/$scratch/build" \
+        cargo build --release --offline -j1 > "$root/$scratch/$name.build" 2>&1) ||
+        { printf '%s\tdoes not build\n' "$name"; continue; }
+    # The folder of programs takes the slipped binary from the variable SECOND.
+    SECOND=$root/$scratch/build/release/second \
+        cases/target/release/cases compare self target/release/second \
+        --seed "$seed" --count "$count" > "$scratch/$name.log" || true
+    caught=$(tail -n 1 "$scratch/$name.log" | sed 's/.*, \([0-9]*\) failed/\1/')
+    first=$(grep -m 1 ' differs$' "$scratch/$name.log" || true)
+    printf '%s\t%s\t%s\n' "$name" "$caught" "$first"
+done

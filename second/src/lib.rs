@@ -1,0 +1,14 @@
+//! The rules of the tick scheduler, written from the rule page document 01
+//! alone: tables, their text, the run, the verdicts, and the two programs'
+//! line formats.
+//!
+//! Text holds microseconds; everything else in this library holds ticks. Only
+//! [`text`] converts between the two.
+
+pub mod night;
+pub mod number;
+pub mod run;
+pub mod states;
+pub mod table;
+pub mod text;
+pub mod verdict;

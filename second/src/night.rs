@@ -1,0 +1,72 @@
+//! The `night` program: event lines in, answer lines out.
+
+use std::io::{self, BufRead, Write};
+
+use crate::number;
+use crate::run::{Answer, How, Run, What};
+
+/// An event line that is well formed.
+#[derive(Clone, Copy, Debug, PartialEq, Eq)]
+enum Event {
+    Release(u64),
+    Tick(bool),
+}
+
+fn parse_event(line: &[u8]) -> Option<Event> {
+    if let Some(task) = line.strip_prefix(b"R\t") {
+        return Some(Event::Release(number::parse(task)?));
+    }
+    match line {
+        b"T\t0" => Some(Event::Tick(false)),
+        b"T\t1" => Some(Event::Tick(true)),
+        _ => None,
+    }
+}
+
+/// Answers every event line, each with one line.
+pub fn answer_events(
+    run: &mut Run,
+    events: &mut impl BufRead,
+    out: &mut impl Write,
+) -> io::Result<()> {
+    let mut line = Vec::new();
+    loop {
+        line.clear();
+        if events.read_until(b'\n', &mut line)? == 0 {
+            return Ok(());
+        }
+        // An unclosed last line is no event.
+        let event = line.strip_suffix(b"\n").and_then(parse_event);
+        match event {
+            None => writeln!(out, "?\tno\t1")?,
+            Some(Event::Release(task)) => match run.release(task) {
+                Ok(()) => writeln!(out, "R\t{task}\tok")?,
+                Err(no) => writeln!(out, "R\t{task}\tno\t{}", no.number())?,
+            },
+            Some(Event::Tick(mark)) => match run.tick(mark) {
+                Ok(answer) => write_answer(&answer, out)?,
+                Err(no) => writeln!(out, "T\tno\t{}", no.number())?,
+            },
+        }
+    }
+}
+
+fn write_answer(answer: &Answer, out: &mut impl Write) -> io::Result<()> {
+    write!(out, "T\t{}\t{}\t", answer.tick, answer.mode.word())?;
+    match answer.what {
+        What::Run { server, task } => write!(out, "run\t{server}\t{task}")?,
+        What::Empty { server } => write!(out, "empty\t{server}\t-")?,
+        What::Idle => write!(out, "idle\t-\t-")?,
+    }
+    match answer.left {
+        None => write!(out, "\t-\t-")?,
+        Some(left) => {
+            let how = match left.how {
+                How::Done => "done",
+                How::Cut => "cut",
+            };
+            write!(out, "\t{how}\t{}", left.task)?;
+        }
+    }
+    writeln!(out, "\t{}", answer.discarded)
+}

@@ -1,0 +1,96 @@
+//! The binary: arguments, files that cannot be read, and what is printed.
+
+mod common;
+
+use std::fs;
+use std::io::Write;
+use std::path::PathBuf;
+use std::process::{Command, Output, Stdio};
+
+use common::EXAMPLE;
+
+fn second(arguments: &[&str], input: &[u8]) -> Output {
+    let mut child = Command::new(env!("CARGO_BIN_EXE_second"))
+        .args(arguments)
+        .stdin(Stdio::piped())
+        .stdout(Stdio::piped())
+        .stderr(Stdio::piped())
+        .spawn()
+        .unwrap();
+    // The program may end without reading its input.
+    let _ = child.stdin.take().unwrap().write_all(input);
+    child.wait_with_output().unwrap()
+}
+
+/// A file of the name in the build's folder for such, with the contents.
+fn file(name: &str, contents: &[u8]) -> String {
+    let path = PathBuf::from(env!("CARGO_TARGET_TMPDIR")).join(name);
+    fs::write(&path, contents).unwrap();
+    path.to_str().unwrap().to_string()
+}
+
+fn prints(arguments: &[&str], input: &[u8], expected: &str) {
+    let output = second(arguments, input);
+    assert_eq!(String::from_utf8_lossy(&output.stdout), expected, "{arguments:?}");
+    assert!(output.status.success() && output.stderr.is_empty(), "{arguments:?}");
+}
+
+fn fails(arguments: &[&str]) {
+    let output = second(arguments, b"");
+    assert_eq!(output.status.code(), Some(1), "{arguments:?}");
+    assert!(output.stdout.is_empty() && !output.stderr.is_empty(), "{arguments:?}");
+}
+
+#[test]
+fn mistakes_in_the_arguments_and_files() {
+    let table = file("table-for-mistakes", EXAMPLE.as_bytes());
+    let folder = env!("CARGO_TARGET_TMPDIR");
+    fails(&[]);
+    fails(&["night"]);
+    fails(&["night", &table]);
+    fails(&["night", &table, "-", "-"]);
+    fails(&["night", "-", "-"]);
+    fails(&["verdicts"]);
+    fails(&["verdicts", &table, &table]);
+    fails(&["other", &table]);
+    fails(&["verdicts", "no such file"]);
+    fails(&["rewrite", folder]);
+    fails(&["night", &table, "no such file"]);
+    fails(&["night", &table, folder]);
+    // A refused table prints nothing either if the events cannot be read.
+    let empty = file("empty-for-mistakes", b"");
+    fails(&["night", &empty, folder]);
+    fails(&["states", &table]);
+}
+
+#[test]
+fn answers_are_printed() {
+    let table = file("table-for-answers", EXAMPLE.as_bytes());
+    let verdicts = "0\t2\t0\t0\n1\t9\t7\t7\n2\t19\t15\t11\n";
+    prints(&["verdicts", &table], b"", verdicts);
+    prints(&["verdicts", "-"], EXAMPLE.as_bytes(), verdicts);
+    prints(&["rewrite", &table], b"", EXAMPLE);
+    prints(&["night", &table, "-"], b"R\t0\nT\t0", "R\t0\tok\n?\tno\t1\n");
+    prints(&["night", &table, "-"], b"", "");
+    for program in ["verdicts", "rewrite"] {
+        prints(&[program, "-"], b"", "table\tno\t1\t1\n");
+        prints(&[program, "-"], &[b'\n'; 16_385], "table\tno\t2\t0\n");
+    }
+    prints(&["night", "-", &table], b"tick\t0\n", "table\tno\t2\t1\n");
+}
+
+#[test]
+fn long_lines_and_many_lines() {
+    let table = file("table-for-long-lines", EXAMPLE.as_bytes());
+    let mut events = b"R\t0".to_vec();
+    events.resize(3_000_000, b'\0');
+    events.extend_from_slice(b"\nR\t0\n");
+    let long = file("long-lines", &events);
+    prints(&["night", &table, &long], b"", "?\tno\t1\nR\t0\tok\n");
+
+    let many = file("many-lines", &b"T\t0\n".repeat(100_000));
+    let output = second(&["night", &table, &many], b"");
+    let answers = String::from_utf8(output.stdout).unwrap();
+    assert_eq!(answers.lines().count(), 100_000);
+    assert_eq!(answers.lines().last(), Some("T\t99999\tN\tidle\t-\t-\t-\t-\t0"));
+}
