@@ -2,9 +2,9 @@
 use mathlib.Core.Path.{_≡_, refl, sym, ap, _∙_}
 use mathlib.Core.List.{List, [], _∷_, _++_, append-assoc, append-nil}
 use Prim.Native.Nat.{ℕ}
-use Rattle.number.specs.Parts.{tab, lineFeed, join}
-use Rattle.number.specs.Room.{Put}
-use Rattle.number.proofs.Room.{put-more, put-as}
+use Rattle.decimal.specs.Parts.{tab, lineFeed, join}
+use Rattle.decimal.specs.Room.{Put}
+use Rattle.decimal.proofs.Room.{put-more, put-as}
 use Rattle.lines.specs.AnswerLine.{tabbed, closing}
 use Rattle.lines.specs.Serve.{closedLine}
 

@@ -12,7 +12,7 @@ use lib.Seq.{take-append-seam}
 use borrow.Author.Tests.{le-leb}
 use Rattle.laws.specs.Choice.{if_then_else_}
 use Rattle.laws.proofs.Choice.{if-ind, if-true, if-false, true-or-false}
-use Rattle.number.specs.Parts.{lineFeed, closed}
+use Rattle.decimal.specs.Parts.{lineFeed, closed}
 use Rattle.table.specs.declared.Refusal.the-variants.{Unsound}
 use Rattle.run.specs.declared.Run.{Run}
 use Rattle.run.specs.declared.Event.{Event}

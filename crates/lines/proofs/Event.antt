@@ -10,13 +10,13 @@ use lib.ListN.{length, getD, length-append}
 use borrow.Author.Tests.{eq-eqb, ne-eqb, le-leb, lt-leb, eqb-true}
 use Rattle.laws.specs.Choice.{if_then_else_, every}
 use Rattle.laws.proofs.Choice.{every-at, every-not, if-ind, true-or-false}
-use Rattle.number.specs.declared.Number.{Number}
-use Rattle.number.specs.declared.Number.the-variants.{Value, Bad}
-use Rattle.number.specs.Number.{isNumber, worth, readNumber}
-use Rattle.number.specs.Parts.{tab, split, join, same}
-use Rattle.number.proofs.Parts.{join-split, same-eq}
-use Rattle.number.proofs.Digits.{worth-fits}
-use Rattle.number.proofs.Walk.{number-long}
+use Rattle.decimal.specs.declared.Number.{Number}
+use Rattle.decimal.specs.declared.Number.the-variants.{Value, Bad}
+use Rattle.decimal.specs.Number.{isNumber, worth, readNumber}
+use Rattle.decimal.specs.Parts.{tab, split, join, same}
+use Rattle.decimal.proofs.Parts.{join-split, same-eq}
+use Rattle.decimal.proofs.Digits.{worth-fits}
+use Rattle.decimal.proofs.Walk.{number-long}
 use Rattle.run.specs.declared.Event.{Event}
 use Rattle.run.specs.declared.Event.the-variants.{Release, Tick}
 use Rattle.lines.specs.declared.EventLine.{EventLine}

@@ -6,7 +6,7 @@ use mathlib.Core.List.{List, [], _∷_, _++_, append-assoc, append-nil}
 use Prim.Native.Nat.{ℕ}
 use lib.Dec.{eqb}
 use Rattle.laws.specs.Choice.{if_then_else_}
-use Rattle.number.specs.Parts.{lineFeed, toFirst, split, closed}
+use Rattle.decimal.specs.Parts.{lineFeed, toFirst, split, closed}
 use Rattle.run.specs.declared.Run.{Run}
 use Rattle.lines.specs.declared.EventLine.{EventLine}
 use Rattle.lines.specs.declared.EventLine.the-variants.{Of, Another}

@@ -13,9 +13,9 @@ use Rattle.laws.specs.declared.Found.{Found}
 use Rattle.laws.specs.declared.Found.the-variants.{At, Nothing}
 use Rattle.laws.specs.Rows.{sumBelow}
 use Rattle.laws.proofs.Highest.{highest-at}
-use Rattle.number.specs.Number.{digits}
-use Rattle.number.specs.Parts.{tab, lineFeed}
-use Rattle.number.proofs.Digits.{digits-length}
+use Rattle.decimal.specs.Number.{digits}
+use Rattle.decimal.specs.Parts.{tab, lineFeed}
+use Rattle.decimal.proofs.Digits.{digits-length}
 use Rattle.table.specs.declared.Mode.{Mode}
 use Rattle.table.specs.declared.Mode.the-variants.{N, D1, D2}
 use Rattle.table.specs.declared.Refusal.{Refusal}

@@ -2,8 +2,8 @@
 -- discarded. An `idle` tick shows `-` for server and task." Lines are parted by tabs, each closed by a line feed.
 use mathlib.Core.List.{List, [], _∷_, _++_, map}
 use Prim.Native.Nat.{ℕ}
-use Rattle.number.specs.Number.{digits}
-use Rattle.number.specs.Parts.{tab, lineFeed, join}
+use Rattle.decimal.specs.Number.{digits}
+use Rattle.decimal.specs.Parts.{tab, lineFeed, join}
 use Rattle.table.specs.declared.Refusal.{Refusal}
 use Rattle.table.specs.declared.Refusal.the-variants.{Malformed}
 use Rattle.table.specs.Refusals.{numberOf}

@@ -6,8 +6,8 @@ use Prim.Native.Nat.{ℕ}
 use lib.Dec.{leb, eqb}
 use lib.ListN.{length, getD}
 use Rattle.laws.specs.Choice.{if_then_else_, every}
-use Rattle.number.specs.Number.{isNumber, worth}
-use Rattle.number.specs.Parts.{tab, lineFeed, split, same}
+use Rattle.decimal.specs.Number.{isNumber, worth}
+use Rattle.decimal.specs.Parts.{tab, lineFeed, split, same}
 use Rattle.run.specs.declared.Event.{Event}
 use Rattle.run.specs.declared.Event.the-variants.{Release, Tick}
 use Rattle.lines.specs.declared.EventLine.{EventLine}

@@ -1,7 +1,7 @@
 -- 01, One night in full: a table file and an event file, and the whole output.
 use mathlib.Core.List.{List, [], _∷_}
 use Prim.Native.Nat.{ℕ}
-use Rattle.number.specs.Parts.{closed}
+use Rattle.decimal.specs.Parts.{closed}
 use Rattle.text.specs.declared.Reading.{Reading}
 use Rattle.text.specs.declared.Reading.the-variants.{Taken, Refused, Equal}
 use Rattle.text.specs.declared.Read.{Read}

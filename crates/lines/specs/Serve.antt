@@ -5,7 +5,7 @@ use mathlib.Core.List.{List, [], _∷_, _++_}
 use Prim.Native.Nat.{ℕ}
 use lib.Dec.{eqb}
 use Rattle.laws.specs.Choice.{if_then_else_}
-use Rattle.number.specs.Parts.{lineFeed}
+use Rattle.decimal.specs.Parts.{lineFeed}
 use Rattle.run.specs.declared.Run.{Run}
 use Rattle.run.specs.Events.{eventOf}
 use Rattle.lines.specs.declared.EventLine.{EventLine}

@@ -1,9 +1,9 @@
-// Answer lines put into a lent room, each whole line one function. Bytes for which there is no room are left out (number::put). Every
+// Answer lines put into a lent room, each whole line one function. Bytes for which there is no room are left out (decimal::put). Every
 // function but the three public ones puts fields that stand after others, so each begins with a tab.
 
-use number::put::put_all;
-use number::put::put_byte;
-use number::put::put_number;
+use decimal::put::put_all;
+use decimal::put::put_byte;
+use decimal::put::put_number;
 use run::Answer;
 use run::Event;
 use run::Left;
@@ -14,8 +14,8 @@ use table::Refusal;
 use table::number_of;
 use text::Reading;
 ghost use mathlib.Core.List.{[], _∷_};
-ghost use Rattle.number.specs.Number.{digits};
-ghost use Rattle.number.specs.Room.{Put};
+ghost use Rattle.decimal.specs.Number.{digits};
+ghost use Rattle.decimal.specs.Room.{Put};
 ghost use Rattle.lines.specs.Words.{modeWord};
 ghost use Rattle.lines.specs.AnswerLine.{turnFields, leftFields, tickFields, noFields, outcome, answerFields, anotherFields, refusedFields};
 ghost use Rattle.lines.specs.AnswerLine.{tabbed, closing};

@@ -2,7 +2,7 @@
 
 pub mod answer;
 
-use number::Number;
+use decimal::Number;
 use run::Event;
 use run::Run;
 use table::Refusal;
@@ -45,10 +45,10 @@ pub struct Served {
 pub fn read_event(l: &[u8]) -> EventLine
     ensures { λ r. ⌜ r ≡ eventLine (now (l .entry)) ⌝ }
 {
-    let two = number::fields(l);
-    let release = number::word_in(l, 0, b"R");
-    let tick = number::word_in(l, 0, b"T");
-    let n = number::number_in(l, 1);
+    let two = decimal::fields(l);
+    let release = decimal::word_in(l, 0, b"R");
+    let tick = decimal::word_in(l, 0, b"T");
+    let n = decimal::number_in(l, 1);
     let Number::Value(v) = n else {
         return EventLine::Another;
     };

@@ -3,8 +3,8 @@ use Rattle.laws.specs.Choice.{every}
 use Rattle.laws.specs.Search.{least}
 use Rattle.laws.specs.RoundUp.{up}
 use Rattle.laws.specs.Rows.{allBelow, anyBelow, sumBelow, highest, anew}
-use Rattle.number.specs.Number.{areDigits, numberForm, isNumber, worthFrom, digitsIn, digits}
-use Rattle.number.specs.Parts.{split, join, closed, same}
+use Rattle.decimal.specs.Number.{areDigits, numberForm, isNumber, worthFrom, digitsIn, digits}
+use Rattle.decimal.specs.Parts.{split, join, closed, same}
 use Rattle.table.specs.Rows.{tableOf}
 use Rattle.table.specs.Rules.{tableKeeps, keeps, serverKeeps, taskKeeps, taskFits, differ}
 use Rattle.table.specs.Pairs.{laterEqual, firstPair}

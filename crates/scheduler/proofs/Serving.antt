@@ -12,9 +12,9 @@ use lib.ListN.{length, getD, take, drop, length-append, length-drop, length-set,
 use lib.Seq.{take-suc, drop-cons, take-at, drop-append-add, drop-drop}
 use borrow.Author.Tests.{eq-eqb, ne-eqb, le-leb, lt-leb}
 use Rattle.laws.proofs.Choice.{if-ind}
-use Rattle.number.specs.Parts.{lineFeed}
-use Rattle.number.specs.Room.{Put}
-use Rattle.number.proofs.Room.{put-fits}
+use Rattle.decimal.specs.Parts.{lineFeed}
+use Rattle.decimal.specs.Room.{Put}
+use Rattle.decimal.proofs.Room.{put-fits}
 use Rattle.table.specs.declared.Table.{Table}
 use Rattle.table.specs.Parts.{Sized}
 use Rattle.run.specs.declared.Run.{Run}

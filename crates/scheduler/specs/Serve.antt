@@ -4,7 +4,7 @@ use mathlib.Core.Path.{_≡_}
 use mathlib.Core.List.{List}
 use Prim.Native.Nat.{ℕ}
 use lib.ListN.{length}
-use Rattle.number.specs.Room.{Put}
+use Rattle.decimal.specs.Room.{Put}
 use Rattle.run.specs.declared.Run.{Run}
 use Rattle.lines.specs.declared.Held.{Held}
 use Rattle.lines.specs.declared.Taking.the-variants.{Taken}

@@ -3,9 +3,9 @@
 use crate::block::Block;
 use crate::block::Operation;
 use crate::part;
-use number::put::put_all;
-use number::put::put_byte;
-use number::put::put_number;
+use decimal::put::put_all;
+use decimal::put::put_byte;
+use decimal::put::put_number;
 use run::Answer;
 use run::Answered;
 use run::Last;
@@ -32,10 +32,10 @@ const BEFORE: u8 = b'~';
 fn put_line(word: &[u8], numbers: &[u64], room: &mut [u8], at: usize) -> usize {
     let mut k = put_all(word, room, at);
     for i in 0..numbers.len() {
-        k = put_byte(number::TAB, room, k);
+        k = put_byte(decimal::TAB, room, k);
         k = put_number(numbers[i], room, k);
     }
-    put_byte(number::LINE_FEED, room, k)
+    put_byte(decimal::LINE_FEED, room, k)
 }
 
 fn say_line(word: &[u8], numbers: &[u64]) -> bool {

@@ -1,6 +1,6 @@
 // A block: a table and a state, filled line by line, and the operation that ends it.
 
-use number::Number;
+use decimal::Number;
 use run::Last;
 use run::State;
 use table::ByMode;
@@ -46,7 +46,7 @@ pub enum Operation {
 }
 
 fn value(line: &[u8], k: usize) -> u64 {
-    match number::number_in(line, k) {
+    match decimal::number_in(line, k) {
         Number::Value(v) => v,
         Number::Bad => NO_NUMBER,
     }
@@ -54,10 +54,10 @@ fn value(line: &[u8], k: usize) -> u64 {
 
 // Whether a line is this word and then numbers, one for each bound and within it.
 fn is_line(line: &[u8], word: &[u8], most: &[u64]) -> bool {
-    if !number::word_in(line, 0, word) {
+    if !decimal::word_in(line, 0, word) {
         return false;
     }
-    if number::fields(line) != most.len() + 1 {
+    if decimal::fields(line) != most.len() + 1 {
         return false;
     }
     for k in 0..most.len() {

@@ -63,8 +63,8 @@ fn take_lines(f: Feed, held: &mut [u8], piece: &[u8]) -> Feed {
     let mut len = f.len;
     let mut at = 0;
     while at < piece.len() {
-        let e = bytes::scan::find(piece, at, piece.len(), number::LINE_FEED);
-        len = number::put::put_all(&piece[at..e], held, len);
+        let e = bytes::scan::find(piece, at, piece.len(), decimal::LINE_FEED);
+        len = decimal::put::put_all(&piece[at..e], held, len);
         if e == piece.len() {
             break;
         }

@@ -10,7 +10,7 @@ use lib.Dec.{leb}
 use lib.ListN.{length, getD, length-append}
 use borrow.Author.Tests.{leb-true, le-leb}
 use Rattle.laws.specs.Choice.{unless_say_else_}
-use Rattle.number.specs.Parts.{lineFeed, split}
+use Rattle.decimal.specs.Parts.{lineFeed, split}
 use Rattle.table.specs.declared.Pair.{Pair}
 use Rattle.table.specs.declared.Pair.the-variants.{Equal as EqualRows, Differ}
 use Rattle.table.specs.declared.Refusal.{Refusal}

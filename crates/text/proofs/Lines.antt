@@ -10,10 +10,10 @@ use lib.ListN.{length, getD}
 use borrow.Author.Tests.{eqb-true}
 use Rattle.laws.specs.Choice.{if_then_else_, every}
 use Rattle.laws.proofs.Choice.{clash, if-ind, or-cases, every-at}
-use Rattle.number.specs.Number.{worth, digits}
-use Rattle.number.specs.Parts.{tab, lineFeed, split, same}
-use Rattle.number.proofs.Digits.{worth-digits, number-digits, digits-worth, digits-length}
-use Rattle.number.proofs.Parts.{allHigh, high, lacks, high-digits, all-high-lack, join-lacks, split-joined, join-split, same-eq, AllUpTo, join-length}
+use Rattle.decimal.specs.Number.{worth, digits}
+use Rattle.decimal.specs.Parts.{tab, lineFeed, split, same}
+use Rattle.decimal.proofs.Digits.{worth-digits, number-digits, digits-worth, digits-length}
+use Rattle.decimal.proofs.Parts.{allHigh, high, lacks, high-digits, all-high-lack, join-lacks, split-joined, join-split, same-eq, AllUpTo, join-length}
 use Rattle.table.specs.declared.Kind.{Kind}
 use Rattle.table.specs.declared.Kind.the-variants.{Event, Timed}
 use Rattle.table.specs.declared.Level.{Level}

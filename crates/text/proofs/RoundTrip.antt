@@ -12,8 +12,8 @@ use lib.Seq.{take-append-seam}
 use borrow.Author.Tests.{le-leb}
 use Rattle.laws.specs.Choice.{every, within}
 use Rattle.laws.proofs.Choice.{and-true, and-left, and-right, is-within}
-use Rattle.number.specs.Parts.{lineFeed, split, closed}
-use Rattle.number.proofs.Parts.{AllUpTo, closed-length, lacks, allLack, split-closed, closed-split}
+use Rattle.decimal.specs.Parts.{lineFeed, split, closed}
+use Rattle.decimal.proofs.Parts.{AllUpTo, closed-length, lacks, allLack, split-closed, closed-split}
 use Rattle.table.specs.declared.Table.{Table}
 use Rattle.table.specs.Rows.{Rows, rowsOf, tableOf, noServer, noTask}
 use Rattle.table.specs.Rules.{keeps, tableKeeps}

@@ -5,10 +5,10 @@ use mathlib.Core.List.{List}
 use Prim.Native.Nat.{ℕ}
 use native.Mathlib.Omega.{arith}
 use Rattle.laws.specs.Choice.{every}
-use Rattle.number.specs.declared.Number.{Number}
-use Rattle.number.specs.declared.Number.the-variants.{Value, Bad}
-use Rattle.number.specs.Number.{isNumber, worth, readNumber}
-use Rattle.number.specs.Parts.{tab, split, same}
+use Rattle.decimal.specs.declared.Number.{Number}
+use Rattle.decimal.specs.declared.Number.the-variants.{Value, Bad}
+use Rattle.decimal.specs.Number.{isNumber, worth, readNumber}
+use Rattle.decimal.specs.Parts.{tab, split, same}
 use Rattle.table.specs.declared.Kind.the-variants.{Event, Timed}
 use Rattle.table.specs.declared.Level.the-variants.{LO, MI, HI}
 use Rattle.text.specs.declared.ServerLine.{ServerLine}

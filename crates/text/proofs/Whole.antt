@@ -7,8 +7,8 @@ use Prim.Native.Nat.{ℕ, zero, suc, _+_, _-_, _≤_, _<_}
 use native.Mathlib.Omega.{arith}
 use lib.ListN.{length, getD, take, drop, length-map, length-drop, drop-of-length-le, List·getD-map}
 use borrow.Author.Tests.{le-leb, lt-leb}
-use Rattle.number.specs.Parts.{lineFeed, split}
-use Rattle.number.proofs.Cut.{Finds, cut-at, last-at, split-some}
+use Rattle.decimal.specs.Parts.{lineFeed, split}
+use Rattle.decimal.proofs.Cut.{Finds, cut-at, last-at, split-some}
 use Rattle.table.specs.declared.Pair.{Pair}
 use Rattle.table.specs.declared.Pair.the-variants.{Equal, Differ}
 use Rattle.table.specs.declared.Table.{Table}

@@ -10,9 +10,9 @@ use lib.Seq.{take-suc, take-at}
 use borrow.Author.Tests.{le-leb, lt-leb}
 use Rattle.laws.specs.Choice.{within}
 use Rattle.laws.proofs.Choice.{and-left, and-right, within-high}
-use Rattle.number.specs.Parts.{closed}
-use Rattle.number.specs.Room.{Put}
-use Rattle.number.proofs.Room.{put-as, put-fits, put-lines, put-none}
+use Rattle.decimal.specs.Parts.{closed}
+use Rattle.decimal.specs.Room.{Put}
+use Rattle.decimal.proofs.Room.{put-as, put-fits, put-lines, put-none}
 use Rattle.table.specs.declared.Server.{Server}
 use Rattle.table.specs.declared.Task.{Task}
 use Rattle.table.specs.declared.Table.{Table}

@@ -6,8 +6,8 @@ use Prim.Native.Nat.{ℕ}
 use lib.Dec.{eqb}
 use lib.ListN.{length, getD}
 use Rattle.laws.specs.Choice.{if_then_else_, every}
-use Rattle.number.specs.Number.{isNumber, worth, digits}
-use Rattle.number.specs.Parts.{tab, split, join, same}
+use Rattle.decimal.specs.Number.{isNumber, worth, digits}
+use Rattle.decimal.specs.Parts.{tab, split, join, same}
 use Rattle.units.specs.declared.Micros.{Micros}
 use Rattle.text.specs.declared.Times.{Times}
 use Rattle.text.specs.declared.ServerLine.{ServerLine}

@@ -6,7 +6,7 @@ use Prim.Native.Nat.{ℕ, _+_}
 use lib.Dec.{leb}
 use lib.ListN.{length, getD}
 use Rattle.laws.specs.Choice.{unless_say_else_}
-use Rattle.number.specs.Parts.{lineFeed, split}
+use Rattle.decimal.specs.Parts.{lineFeed, split}
 use Rattle.table.specs.declared.Pair.{Pair}
 use Rattle.table.specs.declared.Pair.the-variants.{Equal as EqualRows, Differ}
 use Rattle.table.specs.declared.Table.{Table}

@@ -5,7 +5,7 @@ use Prim.Native.Nat.{ℕ, _*_}
 use lib.Dec.{leb}
 use lib.ListN.{length, drop}
 use Rattle.laws.specs.Choice.{unless_say_else_, every}
-use Rattle.number.specs.Parts.{lineFeed, split, closed}
+use Rattle.decimal.specs.Parts.{lineFeed, split, closed}
 use Rattle.units.specs.declared.Ticks.{Ticks}
 use Rattle.units.specs.declared.Micros.{Micros}
 use Rattle.table.specs.declared.ByMode.{ByMode}

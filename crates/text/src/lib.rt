@@ -154,7 +154,7 @@ pub fn read_table(text: &[u8]) -> Read
     let mut at = 0;
     let mut n = 1;
     loop {
-        let e = bytes::scan::find(text, at, text.len(), number::LINE_FEED);
+        let e = bytes::scan::find(text, at, text.len(), decimal::LINE_FEED);
         if e == text.len() {
             if at < e {
                 return refuse(Refusal::Malformed, n);

@@ -5,31 +5,31 @@ use crate::Line;
 use crate::ServerLine;
 use crate::TaskLine;
 use crate::Times;
-use number::Number;
+use decimal::Number;
 use table::Kind;
 use table::Level;
 use units::Micros;
 ghost use mathlib.Core.Path.{_≡_};
 ghost use mathlib.Core.Bool.{true};
 ghost use Rattle.laws.specs.Choice.{every};
-ghost use Rattle.number.specs.Number.{isNumber, worth};
-ghost use Rattle.number.specs.Parts.{tab, split};
+ghost use Rattle.decimal.specs.Number.{isNumber, worth};
+ghost use Rattle.decimal.specs.Parts.{tab, split};
 ghost use Rattle.text.specs.Words.{isKind, kindOf, isLevel, levelOf};
 ghost use Rattle.text.specs.Line.{fieldAt, tickForm, serverForm, taskForm, serverSaid, taskSaid, readLine};
 
 fn has_kind(l: &[u8], k: usize) -> bool
     ensures { λ r. ⌜ r ≡ isKind (fieldAt (split tab (now (l .entry))) k) ⌝ }
 {
-    if number::word_in(l, k, b"event") {
+    if decimal::word_in(l, k, b"event") {
         return true;
     }
-    number::word_in(l, k, b"timed")
+    decimal::word_in(l, k, b"timed")
 }
 
 fn kind_in(l: &[u8], k: usize) -> Kind
     ensures { λ r. ⌜ r ≡ kindOf (fieldAt (split tab (now (l .entry))) k) ⌝ }
 {
-    if number::word_in(l, k, b"timed") {
+    if decimal::word_in(l, k, b"timed") {
         return Kind::Timed;
     }
     Kind::Event
@@ -38,22 +38,22 @@ fn kind_in(l: &[u8], k: usize) -> Kind
 fn has_level(l: &[u8], k: usize) -> bool
     ensures { λ r. ⌜ r ≡ isLevel (fieldAt (split tab (now (l .entry))) k) ⌝ }
 {
-    if number::word_in(l, k, b"LO") {
+    if decimal::word_in(l, k, b"LO") {
         return true;
     }
-    if number::word_in(l, k, b"MI") {
+    if decimal::word_in(l, k, b"MI") {
         return true;
     }
-    number::word_in(l, k, b"HI")
+    decimal::word_in(l, k, b"HI")
 }
 
 fn level_in(l: &[u8], k: usize) -> Level
     ensures { λ r. ⌜ r ≡ levelOf (fieldAt (split tab (now (l .entry))) k) ⌝ }
 {
-    if number::word_in(l, k, b"HI") {
+    if decimal::word_in(l, k, b"HI") {
         return Level::HI;
     }
-    if number::word_in(l, k, b"MI") {
+    if decimal::word_in(l, k, b"MI") {
         return Level::MI;
     }
     Level::LO
@@ -64,7 +64,7 @@ fn worth_in(l: &[u8], k: usize) -> u64
     requires { ⌜ isNumber (fieldAt (split tab (now l)) k) ≡ true ⌝ }
     ensures { λ r. ⌜ r ≡ worth (fieldAt (split tab (now (l .entry))) k) ⌝ }
 {
-    let n = number::number_in(l, k);
+    let n = decimal::number_in(l, k);
     match n {
         Number::Value(v) => v,
         Number::Bad => 0,
@@ -74,24 +74,24 @@ fn worth_in(l: &[u8], k: usize) -> u64
 fn is_tick(l: &[u8]) -> bool
     ensures { λ r. ⌜ r ≡ every (tickForm (split tab (now (l .entry)))) ⌝ }
 {
-    let n = number::fields(l);
-    let word = number::word_in(l, 0, b"tick");
-    let micros = number::has_number(l, 1);
+    let n = decimal::fields(l);
+    let word = decimal::word_in(l, 0, b"tick");
+    let micros = decimal::has_number(l, 1);
     laws::all_of(&[n == 2, word, micros])
 }
 
 fn is_server(l: &[u8]) -> bool
     ensures { λ r. ⌜ r ≡ every (serverForm (split tab (now (l .entry)))) ⌝ }
 {
-    let fields = number::fields(l);
-    let word = number::word_in(l, 0, b"server");
-    let partition = number::has_number(l, 1);
+    let fields = decimal::fields(l);
+    let word = decimal::word_in(l, 0, b"server");
+    let partition = decimal::has_number(l, 1);
     let kind = has_kind(l, 2);
-    let priority = number::has_number(l, 3);
-    let period = number::has_number(l, 4);
-    let n = number::has_number(l, 5);
-    let d1 = number::has_number(l, 6);
-    let d2 = number::has_number(l, 7);
+    let priority = decimal::has_number(l, 3);
+    let period = decimal::has_number(l, 4);
+    let n = decimal::has_number(l, 5);
+    let d1 = decimal::has_number(l, 6);
+    let d2 = decimal::has_number(l, 7);
     laws::all_of(
         &[
             fields == 8,
@@ -110,15 +110,15 @@ fn is_server(l: &[u8]) -> bool
 fn is_task(l: &[u8]) -> bool
     ensures { λ r. ⌜ r ≡ every (taskForm (split tab (now (l .entry)))) ⌝ }
 {
-    let fields = number::fields(l);
-    let word = number::word_in(l, 0, b"task");
-    let home = number::has_number(l, 1);
-    let degraded = number::has_number(l, 2);
-    let priority = number::has_number(l, 3);
+    let fields = decimal::fields(l);
+    let word = decimal::word_in(l, 0, b"task");
+    let home = decimal::has_number(l, 1);
+    let degraded = decimal::has_number(l, 2);
+    let priority = decimal::has_number(l, 3);
     let level = has_level(l, 4);
-    let n = number::has_number(l, 5);
-    let d1 = number::has_number(l, 6);
-    let d2 = number::has_number(l, 7);
+    let n = decimal::has_number(l, 5);
+    let d1 = decimal::has_number(l, 6);
+    let d2 = decimal::has_number(l, 7);
     laws::all_of(
         &[
             fields == 8,

@@ -2,9 +2,9 @@
 // in the lent room, is in specs/Write.antt.
 
 use crate::Writing;
-use number::put::put_all;
-use number::put::put_byte;
-use number::put::put_number;
+use decimal::put::put_all;
+use decimal::put::put_byte;
+use decimal::put::put_number;
 use table::ByMode;
 use table::Kind;
 use table::Level;
@@ -19,9 +19,9 @@ ghost use mathlib.Core.Bool.{true};
 ghost use mathlib.Core.List.{[], _∷_, _++_, map};
 ghost use Prim.Native.Nat.{_≤_};
 ghost use lib.ListN.{take};
-ghost use Rattle.number.specs.Number.{digits};
-ghost use Rattle.number.specs.Parts.{tab, lineFeed, join, closed};
-ghost use Rattle.number.specs.Room.{Put};
+ghost use Rattle.decimal.specs.Number.{digits};
+ghost use Rattle.decimal.specs.Parts.{tab, lineFeed, join, closed};
+ghost use Rattle.decimal.specs.Room.{Put};
 ghost use Rattle.table.specs.Rows.{rowsOf};
 ghost use Rattle.table.specs.Rules.{tableKeeps};
 ghost use Rattle.text.specs.declared.Line.the-variants.{OfServer, OfTask};

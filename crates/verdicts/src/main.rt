@@ -1,8 +1,8 @@
 // verdicts TABLE: for each server row its number and its response in N, D1 and D2, `misses` where there is none; a refused table as its
 // one line.
 
-use number::put::put_all;
-use number::put::put_number;
+use decimal::put::put_all;
+use decimal::put::put_number;
 use table::Mode;
 use table::Table;
 use verdict::Verdict;

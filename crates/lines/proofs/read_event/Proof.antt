@@ -9,9 +9,9 @@ use Rattle.lines.proofs.read_event.Statement.{statement}
 use Rattle.lines.proofs.read_event.Tie as tie
 use Rattle.lines.proofs.read_event.Reads as reads
 use Rattle.lines.proofs.read_event.Lts as lts
-use Rattle.number.proofs.fields.Reads as fields-reads
-use Rattle.number.proofs.number_in.Reads as number-in-reads
-use Rattle.number.proofs.word_in.Reads as word-in-reads
+use Rattle.decimal.proofs.fields.Reads as fields-reads
+use Rattle.decimal.proofs.number_in.Reads as number-in-reads
+use Rattle.decimal.proofs.word_in.Reads as word-in-reads
 
 fields-requires : tie.Need-fields-requires
 fields-requires c κs = search needs

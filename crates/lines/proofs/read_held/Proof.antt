@@ -4,8 +4,8 @@ use mathlib.Core.Path.{_≡_, sym, ap, _∙_}
 use lib.ListN.{length}
 use lib.Seq.{length-take-le}
 use Rattle.laws.specs.Choice.{every}
-use Rattle.number.specs.Number.{numberForm, isNumber, areDigits, worthFrom}
-use Rattle.number.specs.Parts.{split, same}
+use Rattle.decimal.specs.Number.{numberForm, isNumber, areDigits, worthFrom}
+use Rattle.decimal.specs.Parts.{split, same}
 use Rattle.lines.specs.Words.{releaseLetter, tickLetter}
 use Rattle.lines.specs.EventLine.{releaseForm, tickForm, eventSaid, eventLine}
 use Rattle.lines.proofs.Holding.{line-in, line-long}

@@ -7,7 +7,7 @@ use native.Mathlib.Omega.{arith}
 use borrow.Author.Needs.{needs}
 use lib.Arith.{lt-of-le-ne}
 use lib.ListN.{length, drop}
-use Rattle.number.specs.Parts.{lineFeed, split}
+use Rattle.decimal.specs.Parts.{lineFeed, split}
 use Rattle.table.specs.Rows.{noRows, rowsOf}
 use Rattle.text.specs.Read.{readFrom, shown}
 use Rattle.text.specs.Ready.{Ready}

@@ -1,8 +1,8 @@
 -- `lines::answer::put_another` meets its contract: its bytes are the line. Assumes nothing.
 use Rattle.lines.specs.Words.{anotherLetter, noWord}
 use Rattle.lines.specs.AnswerLine.{anotherFields}
-use Rattle.number.specs.Number.{digits, digitsIn}
-use Rattle.number.specs.Parts.{join}
+use Rattle.decimal.specs.Number.{digits, digitsIn}
+use Rattle.decimal.specs.Parts.{join}
 use borrow.Author.Needs.{needs}
 use Rattle.lines.proofs.answer.put_another.Statement.{statement}
 use Rattle.lines.proofs.answer.put_another.Tie as tie

@@ -1,6 +1,6 @@
 -- `lines::answer::put_answer` meets its contract: the first field, and what became of the event. Assumes nothing.
 use mathlib.Core.List.{[], _∷_}
-use Rattle.number.specs.Number.{digits}
+use Rattle.decimal.specs.Number.{digits}
 use Rattle.lines.specs.Words.{releaseLetter, tickLetter}
 use Rattle.lines.specs.AnswerLine.{outcome, answerFields}
 use Rattle.lines.proofs.Answering.{closing-then, line-then}

@@ -1,5 +1,5 @@
 -- `lines::answer::put_field` meets its contract: a tab, then the number. Assumes nothing.
-use Rattle.number.proofs.Room.{put-more}
+use Rattle.decimal.proofs.Room.{put-more}
 use Rattle.lines.proofs.Answering.{field-put}
 use borrow.Author.Needs.{needs}
 use Rattle.lines.proofs.answer.put_field.Statement.{statement}

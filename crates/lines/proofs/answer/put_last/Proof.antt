@@ -1,5 +1,5 @@
 -- `lines::answer::put_last` meets its contract: the field, then the line feed. Assumes nothing.
-use Rattle.number.proofs.Room.{put-more}
+use Rattle.decimal.proofs.Room.{put-more}
 use borrow.Author.Needs.{needs}
 use Rattle.lines.proofs.answer.put_last.Statement.{statement}
 use Rattle.lines.proofs.answer.put_last.Tie as tie

@@ -1,6 +1,6 @@
 -- `lines::answer::put_left` meets its contract: in each case its two fields. Assumes nothing.
 use mathlib.Core.List.{[], _∷_}
-use Rattle.number.specs.Number.{digits}
+use Rattle.decimal.specs.Number.{digits}
 use Rattle.lines.specs.Words.{dash, doneWord, cutWord}
 use Rattle.lines.specs.AnswerLine.{tabbed}
 use Rattle.lines.proofs.Answering.{fields-then}

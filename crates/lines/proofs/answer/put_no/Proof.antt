@@ -1,7 +1,7 @@
 -- `lines::answer::put_no` meets its contract: the word and the number. Assumes nothing.
 use mathlib.Core.List.{[], _∷_}
 use mathlib.Core.Path.{sym}
-use Rattle.number.specs.Number.{digits}
+use Rattle.decimal.specs.Number.{digits}
 use Rattle.lines.specs.Words.{noWord}
 use Rattle.lines.specs.AnswerLine.{tabbed}
 use Rattle.lines.proofs.Answering.{closing-then}

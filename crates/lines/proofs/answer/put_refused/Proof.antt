@@ -1,6 +1,6 @@
 -- `lines::answer::put_refused` meets its contract: in each case its numbers. Assumes nothing.
 use mathlib.Core.List.{[], _∷_, _++_}
-use Rattle.number.specs.Number.{digits}
+use Rattle.decimal.specs.Number.{digits}
 use Rattle.lines.specs.Words.{tableWord, noWord}
 use Rattle.lines.specs.AnswerLine.{refusedFields, tabbed}
 use Rattle.lines.proofs.Answering.{closing-then, line-on}

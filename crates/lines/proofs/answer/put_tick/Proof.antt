@@ -1,7 +1,7 @@
 -- `lines::answer::put_tick` meets its contract: its fields one after another, and the line feed. Assumes nothing.
 use mathlib.Core.List.{[], _∷_}
 use mathlib.Core.List.{_++_}
-use Rattle.number.specs.Number.{digits}
+use Rattle.decimal.specs.Number.{digits}
 use Rattle.lines.specs.Words.{modeWord}
 use Rattle.lines.specs.AnswerLine.{turnFields, leftFields}
 use Rattle.lines.proofs.Answering.{closing-then}

@@ -3,7 +3,7 @@ use mathlib.Core.Path.{refl, sym, _∙_}
 use mathlib.Core.List.{List, []}
 use Prim.Native.Nat.{ℕ}
 use lib.ListN.{getD}
-use Rattle.number.specs.Parts.{tab, split}
+use Rattle.decimal.specs.Parts.{tab, split}
 use Rattle.text.specs.Words.{timedWord}
 use Rattle.text.proofs.Said.{kind-timed, kind-event}
 use Rattle.text.proofs.words.kind_in.Statement.{statement}

@@ -1,7 +1,7 @@
 -- `text::words::read_line` meets its contract: the three forms are asked for in turn. Assumes nothing.
 use mathlib.Core.Path.{sym, _∙_}
 use Rattle.laws.proofs.Choice.{every-at}
-use Rattle.number.specs.Parts.{tab, split}
+use Rattle.decimal.specs.Parts.{tab, split}
 use Rattle.text.specs.Line.{tickForm}
 use Rattle.text.proofs.Said.{line-tick, line-server, line-task, line-none}
 use Rattle.text.proofs.words.read_line.Statement.{statement}

@@ -5,7 +5,7 @@ use mathlib.Core.Bool.{true}
 use Prim.Native.Nat.{ℕ}
 use lib.ListN.{getD}
 use Rattle.laws.proofs.Choice.{every-at}
-use Rattle.number.specs.Parts.{tab, split}
+use Rattle.decimal.specs.Parts.{tab, split}
 use Rattle.text.specs.Line.{serverForm}
 use Rattle.text.proofs.words.server_said.Statement.{statement}
 use Rattle.text.proofs.words.server_said.Tie as tie

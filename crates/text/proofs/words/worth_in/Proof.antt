@@ -2,7 +2,7 @@
 use mathlib.Core.List.{List, []}
 use Prim.Native.Nat.{ℕ}
 use lib.ListN.{getD}
-use Rattle.number.specs.Parts.{tab, split}
+use Rattle.decimal.specs.Parts.{tab, split}
 use Rattle.text.proofs.Said.{value-worth, bad-worth}
 use borrow.Author.Needs.{needs}
 use Rattle.text.proofs.words.worth_in.Statement.{statement}

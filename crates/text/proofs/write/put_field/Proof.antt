@@ -1,8 +1,8 @@
 -- `text::write::put_field` meets its contract: the number, then the tab. Assumes nothing.
 use mathlib.Core.List.{[], _∷_}
-use Rattle.number.specs.Number.{digits}
-use Rattle.number.specs.Parts.{tab}
-use Rattle.number.proofs.Room.{put-more}
+use Rattle.decimal.specs.Number.{digits}
+use Rattle.decimal.specs.Parts.{tab}
+use Rattle.decimal.proofs.Room.{put-more}
 use borrow.Author.Needs.{needs}
 use Rattle.text.proofs.write.put_field.Statement.{statement}
 use Rattle.text.proofs.write.put_field.Tie as tie

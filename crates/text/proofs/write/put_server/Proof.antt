@@ -1,7 +1,7 @@
 -- `text::write::put_server` meets its contract: the line field by field. Assumes nothing.
 use mathlib.Core.List.{[], _∷_}
-use Rattle.number.specs.Number.{digits}
-use Rattle.number.proofs.Room.{put-field}
+use Rattle.decimal.specs.Number.{digits}
+use Rattle.decimal.proofs.Room.{put-field}
 use Rattle.text.specs.Words.{serverWord, kindWord}
 use Rattle.text.specs.Line.{fieldAt, timesFields, fieldsOf, writeLine}
 use Rattle.text.specs.Write.{serverBack}

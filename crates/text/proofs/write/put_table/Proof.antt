@@ -1,7 +1,7 @@
 -- `text::write::put_table` meets its contract: the `tick` line, the servers, the tasks. Assumes nothing.
 use mathlib.Core.List.{[]}
-use Rattle.number.specs.Number.{digits}
-use Rattle.number.proofs.Room.{put-field, put-last}
+use Rattle.decimal.specs.Number.{digits}
+use Rattle.decimal.proofs.Room.{put-field, put-last}
 use Rattle.text.specs.Words.{tickWord}
 use Rattle.text.specs.Line.{fieldsOf, writeLine}
 use Rattle.text.proofs.Written.{put-rows}

@@ -5,9 +5,9 @@ use Prim.Native.Nat.{_≤_, _<_, _-_}
 use native.Mathlib.Omega.{arith}
 use lib.ListN.{length, take, length-map}
 use borrow.Author.Needs.{needs}
-use Rattle.number.specs.Parts.{closed}
-use Rattle.number.specs.Room.{Put}
-use Rattle.number.proofs.Room.{put-length}
+use Rattle.decimal.specs.Parts.{closed}
+use Rattle.decimal.specs.Room.{Put}
+use Rattle.decimal.proofs.Room.{put-length}
 use Rattle.text.specs.Line.{writeLine}
 use Rattle.text.specs.Write.{taskLines}
 use Rattle.text.proofs.Written.{few-tasks, short-tick, put-next-task, no-tasks}

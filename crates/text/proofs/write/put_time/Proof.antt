@@ -1,9 +1,9 @@
 -- `text::write::put_time` meets its contract: the number of microseconds is put. Assumes nothing.
 use mathlib.Core.Path.{ap}
 use mathlib.Core.List.{[], _∷_, _++_}
-use Rattle.number.specs.Number.{digits}
-use Rattle.number.specs.Parts.{tab}
-use Rattle.number.proofs.Room.{put-as}
+use Rattle.decimal.specs.Number.{digits}
+use Rattle.decimal.specs.Parts.{tab}
+use Rattle.decimal.proofs.Room.{put-as}
 use borrow.Author.Needs.{needs}
 use Rattle.text.proofs.write.put_time.Statement.{statement}
 use Rattle.text.proofs.write.put_time.Tie as tie

@@ -1,8 +1,8 @@
 -- `text::write::put_times` meets its contract: two fields, the last one and the line feed. Assumes nothing.
 use mathlib.Core.Path.{ap}
 use mathlib.Core.List.{[], _∷_}
-use Rattle.number.specs.Number.{digits}
-use Rattle.number.proofs.Room.{put-as, put-field, put-last}
+use Rattle.decimal.specs.Number.{digits}
+use Rattle.decimal.proofs.Room.{put-as, put-field, put-last}
 use Rattle.text.specs.Write.{timesBack}
 use borrow.Author.Needs.{needs}
 use Rattle.text.proofs.write.put_times.Statement.{statement}

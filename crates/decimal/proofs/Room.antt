@@ -1,0 +1,113 @@
+-- Bytes put into a lent room: one text after another is one text, and where there is room for all of it the room holds
+-- it, and else what it held. Assumes nothing.
+use mathlib.Core.Path.{_≡_, refl, sym, ap, subst, _∙_}
+use mathlib.Core.List.{List, [], _∷_, _++_, append-assoc}
+use mathlib.Core.Logic.{_⊎_, inl, inr}
+use Prim.Native.Nat.{ℕ, suc, _+_, _*_, _/_, _%_, _≤_, _<_}
+use native.Mathlib.Omega.{arith}
+use native.Mathlib.Nat.{add-zero, add-suc, suc-add}
+use native.Mathlib.Numerals.{add-one}
+use lib.ListN.{length, getD, take, drop, set, length-append}
+use lib.Seq.{sets, length-sets, sets-eq, set-out, take-suc}
+use Rattle.laws.proofs.Choice.{le-or-lt}
+use Rattle.decimal.specs.Number.{digits}
+use Rattle.decimal.specs.Parts.{tab, lineFeed, join, closed}
+use Rattle.decimal.specs.Room.{Put}
+use Rattle.decimal.proofs.Digits.{digits-one, digits-more}
+use Rattle.decimal.proofs.Parts.{closed-append}
+
+-- stores, one after another and past the end
+sets-append : (d : List ℕ) (at : ℕ) (xs ys : List ℕ) → sets d at (xs ++ ys) ≡ sets (sets d at xs) (at + length xs) ys
+sets-append d at [] ys = rw (add-zero at)
+sets-append d at (x ∷ xs) ys =
+    rw (add-suc at (length xs), ← suc-add at (length xs)) (sets-append (set d at x) (suc at) xs ys)
+
+sets-out : (d : List ℕ) (at : ℕ) (xs : List ℕ) → length d ≤ at → sets d at xs ≡ d
+sets-out d at [] h = refl
+sets-out d at (x ∷ xs) h = rw (set-out d at x h) (sets-out d (suc at) xs (omega arith))
+
+-- one byte, and no byte
+pub put-in : (b : ℕ) (d : List ℕ) (at : ℕ) → at < length d → Put (b ∷ []) d at (set d at b) (at + 1)
+put-in b d at h = record { leaves = refl; ends = omega arith }
+
+pub put-past : (b : ℕ) (d : List ℕ) (at : ℕ) → length d ≤ at → Put (b ∷ []) d at d at
+put-past b d at h = record { leaves = sym (sets-out d at (b ∷ []) h); ends = omega arith }
+
+pub put-none : (d : List ℕ) (at : ℕ) → Put [] d at d at
+put-none d at = record { leaves = refl; ends = omega arith }
+
+-- one text
+module _ {d : List ℕ} {at : ℕ} {e : List ℕ} {r : ℕ} where
+  -- the room keeps its length
+  pub put-length : (xs : List ℕ) → Put xs d at e r → length e ≡ length d
+  put-length xs p = ap length (p .leaves) ∙ length-sets d at xs
+
+  -- the same bytes, said otherwise
+  pub put-as : {xs ys : List ℕ} → xs ≡ ys → Put xs d at e r → Put ys d at e r
+  put-as q p = subst (λ zs. Put zs d at e r) q p
+
+  -- a number of one digit
+  pub put-digit : (n : ℕ) → n < 10 → Put ((48 + n) ∷ []) d at e r → Put (digits n) d at e r
+  put-digit n h p = put-as (sym (digits-one n h)) p
+
+  -- where there is room: the text stands from its place on, and nothing beyond it changed
+  pub put-fits : (xs : List ℕ) → at + length xs ≤ length d → Put xs d at e r →
+      (e ≡ take at d ++ (xs ++ drop (at + length xs) d)) × (r ≡ at + length xs)
+  put-fits xs h p =
+      (p .leaves ∙ sets-eq xs d at h ∙ append-assoc (take at d) xs (drop (at + length xs) d), omega (arith, p .ends))
+
+-- one text after another
+module _ {d : List ℕ} {at : ℕ} {e : List ℕ} {k : ℕ} {f : List ℕ} {r : ℕ} where
+  pub put-more : (xs ys : List ℕ) → Put xs d at e k → Put ys e k f r → Put (xs ++ ys) d at f r
+  put-more xs ys p q =
+      record {
+        leaves = go (le-or-lt (at + length xs) (length d));
+        ends = omega (arith, p .ends, q .ends, put-length xs p, length-append xs ys);
+      }
+    where
+      go : (at + length xs ≤ length d) ⊎ (length d < at + length xs) → f ≡ sets d at (xs ++ ys)
+      go (inl h) =
+          let m : k ≡ at + length xs = omega (arith, p .ends) in
+          q .leaves ∙ rw (m, p .leaves) (sym (sets-append d at xs ys))
+      go (inr h) =
+          let m : length e ≤ k = omega (arith, p .ends, put-length xs p) in
+          let l : length (sets d at xs) ≤ at + length xs = omega (arith, length-sets d at xs) in
+          q .leaves ∙ sets-out e k ys m ∙ p .leaves ∙
+          sym (sets-append d at xs ys ∙ sets-out (sets d at xs) (at + length xs) ys l)
+
+  -- a loop over bytes: one byte more
+  pub put-next : (xs : List ℕ) (i : ℕ) → i < length xs → Put (take i xs) d at e k → Put (getD xs i 0 ∷ []) e k f r →
+      Put (take (i + 1) xs) d at f r
+  put-next xs i h p q = rw (add-one i, take-suc xs i 0 h) (put-more (take i xs) (getD xs i 0 ∷ []) p q)
+
+  -- a number of more digits: those of the tenth part, then a last one
+  pub put-digits : (n : ℕ) → 10 ≤ n → Put (digits (n / 10)) d at e k → Put ((48 + n % 10) ∷ []) e k f r →
+      Put (digits n) d at f r
+  put-digits n h p q =
+      let v : n / 10 * 10 + n % 10 ≡ n = omega arith in
+      let m : 0 < n / 10 = omega arith in
+      let g : digits (n / 10 * 10 + n % 10) ≡ digits (n / 10) ++ ((48 + n % 10) ∷ []) =
+      digits-more (n / 10) (n % 10) m (omega arith) in
+      put-as (sym g ∙ ap digits v) (put-more (digits (n / 10)) ((48 + n % 10) ∷ []) p q)
+
+  -- a line, field by field: one with the tab after it, then those that follow
+  pub put-field : (p q : List ℕ) (ps : List (List ℕ)) → Put (p ++ (tab ∷ [])) d at e k →
+      Put (closed (join tab (q ∷ ps) ∷ [])) e k f r →
+      Put (closed (join tab (p ∷ (q ∷ ps)) ∷ [])) d at f r
+  unfolding join closed
+  put-field p q ps a b =
+      let l = join tab (q ∷ ps) ++ (lineFeed ∷ []) in
+      put-as
+      (append-assoc p (tab ∷ []) l ∙ sym (append-assoc p (tab ∷ join tab (q ∷ ps)) (lineFeed ∷ [])))
+      (put-more (p ++ (tab ∷ [])) l a b)
+
+  -- and the last one, with the line feed
+  pub put-last : (p : List ℕ) → Put p d at e k → Put (lineFeed ∷ []) e k f r →
+      Put (closed (join tab (p ∷ []) ∷ [])) d at f r
+  unfolding join closed
+  put-last p a b = put-more p (lineFeed ∷ []) a b
+
+  -- lines after lines
+  pub put-lines : (ks ls : List (List ℕ)) → Put (closed ks) d at e k → Put (closed ls) e k f r →
+      Put (closed (ks ++ ls)) d at f r
+  put-lines ks ls a b = put-as (sym (closed-append ks ls)) (put-more (closed ks) (closed ls) a b)
