@@ -14,7 +14,7 @@ enum Event {
 
 fn parse_event(line: &[u8]) -> Option<Event> {
     if let Some(task) = line.strip_prefix(b"R\t") {
-        return Some(Event::Release(decimal::parse(task)?));
+        return Some(Event::Release(number::parse(task)?));
     }
     match line {
         b"T\t0" => Some(Event::Tick(false)),

@@ -94,22 +94,22 @@ struct TaskLine {
 fn parse_line(line: &[u8]) -> Option<Line> {
     let fields: Vec<&[u8]> = line.split(|&byte| byte == b'\t').collect();
     match fields.as_slice() {
-        [b"tick", tick] => Some(Line::Tick(decimal::parse(tick)?)),
+        [b"tick", tick] => Some(Line::Tick(number::parse(tick)?)),
         [b"server", partition, kind, priority, period, n, d1, d2] => {
             Some(Line::Server(ServerLine {
-                partition: decimal::parse(partition)?,
+                partition: number::parse(partition)?,
                 kind: Kind::from_word(kind)?,
-                priority: decimal::parse(priority)?,
-                period: decimal::parse(period)?,
-                capacity: [decimal::parse(n)?, decimal::parse(d1)?, decimal::parse(d2)?],
+                priority: number::parse(priority)?,
+                period: number::parse(period)?,
+                capacity: [number::parse(n)?, number::parse(d1)?, number::parse(d2)?],
             }))
         }
         [b"task", home, degraded, priority, level, n, d1, d2] => Some(Line::Task(TaskLine {
-            home: decimal::parse(home)?,
-            degraded: decimal::parse(degraded)?,
-            priority: decimal::parse(priority)?,
+            home: number::parse(home)?,
+            degraded: number::parse(degraded)?,
+            priority: number::parse(priority)?,
             level: Level::from_word(level)?,
-            limit: [decimal::parse(n)?, decimal::parse(d1)?, decimal::parse(d2)?],
+            limit: [number::parse(n)?, number::parse(d1)?, number::parse(d2)?],
         })),
         _ => None,
     }
