@@ -5,6 +5,5 @@ pub mod Settling
 pub mod Tops
 pub mod Ticking
 pub mod Releasing
-pub mod Checks
 pub mod Keeping
 pub mod Serving

@@ -3,5 +3,4 @@ pub mod Settle
 pub mod Choose
 pub mod Advance
 pub mod Events
-pub mod Sound
 pub mod Serve

@@ -26,7 +26,7 @@ ghost use Rattle.scheduler.specs.Events.{Admits, Releases, Ready};
 fn low_in_d2(m: Mode, l: Level) -> bool
     ensures { λ r. ⌜ r ≡ (isD2 m && isLow l) ⌝ }
 {
-    if settle::is_d2(m) {
+    if soundness::is_d2(m) {
         return table::is_low(l);
     }
     false

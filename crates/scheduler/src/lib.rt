@@ -8,7 +8,6 @@ mod events;
 mod parts;
 pub mod serve;
 mod settle;
-mod sound;
 
 use run::Answer;
 use run::Answered;
@@ -63,7 +62,7 @@ pub fn release(r: Run, task: usize) -> Answered
 {
     let t = r.table;
     let s = r.state;
-    if !sound::run_sound(t, s) {
+    if !soundness::run_sound(t, s) {
         return Answered {
             answer: Answer::No(Refusal::Unsound),
             run: r,
@@ -84,7 +83,7 @@ pub fn tick(r: Run, mark: bool) -> Answered
 {
     let t = r.table;
     let s = r.state;
-    if !sound::run_sound(t, s) {
+    if !soundness::run_sound(t, s) {
         return Answered {
             answer: Answer::No(Refusal::Unsound),
             run: r,

@@ -5,7 +5,6 @@
 use crate::events;
 use crate::parts;
 use crate::parts::Head;
-use crate::sound;
 use lines::EventLine;
 use lines::Held;
 use lines::Served;
@@ -171,7 +170,7 @@ pub fn serve(r: Run, h: Held, input: &[u8], room: &mut [u8]) -> Served
 {
     let t = r.table;
     let s = r.state;
-    if !sound::run_sound(t, s) {
+    if !soundness::run_sound(t, s) {
         return Served {
             answer: Taking::Refused(Refusal::Unsound),
             run: r,

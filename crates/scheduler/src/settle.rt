@@ -10,7 +10,6 @@ ghost use mathlib.Core.Path.{_≡_};
 ghost use Prim.Native.Nat.{_-_, _≤_, _<_};
 ghost use lib.ListN.{getD, set};
 ghost use Rattle.laws.specs.Rows.{anew, anyBelow, sumBelow};
-ghost use Rattle.run.specs.Sound.{isD2};
 ghost use Rattle.run.specs.Tick.{judge, enters};
 ghost use Rattle.scheduler.specs.Settle.{judgedOf, lastRow, RanJob, Marks};
 ghost use Rattle.scheduler.specs.Settle.{refilled, keptOf, goneOf, waitsAt, modeOn};
@@ -149,31 +148,14 @@ pub(crate) fn mark_job(
     }
 }
 
-// A number of jobs, to be added up.
-pub(crate) fn jobs(x: u8) -> u32
-    ensures { λ r. ⌜ (r ≡ x) × (r < 256) ⌝ }
-{
-    x as u32
-}
-
-pub(crate) fn is_d2(m: Mode) -> bool
-    ensures { λ r. ⌜ r ≡ isD2 m ⌝ }
-{
-    match m {
-        Mode::N => false,
-        Mode::D1 => false,
-        Mode::D2 => true,
-    }
-}
-
 // Whether step 2 has anything to do: the mode was not D2 and is.
 pub(crate) fn enters_d2(before: Mode, after: Mode) -> bool
     ensures { λ r. ⌜ r ≡ enters before after ⌝ }
 {
-    if is_d2(before) {
+    if soundness::is_d2(before) {
         return false;
     }
-    is_d2(after)
+    soundness::is_d2(after)
 }
 
 // Step 2, once D2 is entered: how many were discarded.
@@ -189,7 +171,7 @@ pub(crate) fn discard(t: Table, waiting: &mut [u8; 64], runs: &mut [u32; 64]) ->
         let row = t.tasks[k];
         let l = row.level;
         if table::is_low(l) {
-            count += jobs(waiting[k]);
+            count += soundness::jobs(waiting[k]);
             waiting[k] = 0;
             runs[k] = 0;
         }

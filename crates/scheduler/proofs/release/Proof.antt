@@ -5,7 +5,7 @@ use mathlib.Core.Bool.{true}
 use borrow.Author.Tests.{not-true, not-false}
 use Rattle.run.specs.Sound.{sound}
 use Rattle.run.proofs.Sound.{sound-table}
-use Rattle.scheduler.proofs.Checks.{tasks-fit}
+use Rattle.soundness.proofs.Checks.{tasks-fit}
 use Rattle.scheduler.proofs.Releasing.{release-unsound}
 use borrow.Author.Needs.{needs}
 use Rattle.scheduler.proofs.release.Statement.{statement}

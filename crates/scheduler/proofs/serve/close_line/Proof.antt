@@ -7,7 +7,7 @@ use Rattle.run.specs.declared.Event.the-variants.{Release, Tick}
 use Rattle.lines.specs.declared.EventLine.the-variants.{Of}
 use Rattle.run.proofs.Sound.{sound-table}
 use Rattle.scheduler.specs.Parts.{runOf}
-use Rattle.scheduler.proofs.Checks.{tasks-fit}
+use Rattle.soundness.proofs.Checks.{tasks-fit}
 use Rattle.scheduler.proofs.Serving.{closes-event, closes-another}
 use Rattle.scheduler.proofs.serve.close_line.Statement.{statement}
 use Rattle.scheduler.proofs.serve.close_line.Tie as tie

@@ -1,0 +1,64 @@
+-- `scheduler::sound::jobs_waiting` meets its contract: the sum of the rows passed. Assumes nothing.
+use mathlib.Core.Path.{_≡_, refl, ap, sym, _∙_}
+use Prim.Native.Nat.{_+_, _*_, _-_, _≤_}
+use native.Mathlib.Omega.{arith}
+use lib.ListN.{getD}
+use Rattle.laws.specs.Rows.{sumBelow}
+use Rattle.laws.proofs.Rows.{sum-next}
+use Rattle.soundness.proofs.jobs_waiting.Statement.{statement}
+use Rattle.soundness.proofs.jobs_waiting.Tie as tie
+
+abbrev Inv-loop : tie.InvT-loop
+Inv-loop n waiting count₀ k₀ count k =
+    (k ≤ n) × (count ≤ k * 255) × (count ≡ sumBelow k (λ j. getD waiting j 0))
+
+abbrev μ-loop : tie.MeasureT-loop
+μ-loop n waiting count₀ k₀ count k = n - k
+
+loop-holds : tie.Need-loop-holds Inv-loop μ-loop
+unfolding sumBelow
+loop-holds c = (omega arith, omega arith, refl)
+
+array-read-jobs : tie.Need-array-read-jobs Inv-loop μ-loop
+array-read-jobs c = omega arith
+
+jobs-requires : tie.Need-jobs-requires Inv-loop μ-loop
+jobs-requires c κs = tt
+
+add-count : tie.Need-add-count Inv-loop μ-loop
+add-count c = omega arith
+
+add-k : tie.Need-add-k Inv-loop μ-loop
+add-k c = omega arith
+
+loop-less : tie.Need-loop-less Inv-loop μ-loop
+loop-less c = omega arith
+
+loop-again : tie.Need-loop-again Inv-loop μ-loop
+loop-again c =
+    let l = c .before .before .loop in
+    let w = c .before .before .before .args .t2 in (
+      omega arith,
+      omega (arith, c .jobs .ensures .0, c .jobs .ensures .1),
+      ap (λ x. l .count + x) (c .jobs .ensures .0)
+          ∙ ap (λ x. x + getD w (l .k) 0) (l .inv .2)
+          ∙ sym (sum-next (λ j. getD w j 0) (l .k)),
+    )
+
+returns : tie.Need-returns Inv-loop μ-loop
+returns c = let e : c .before .loop .k ≡ c .before .before .args .n = omega arith in rw (← e) (c .before .loop .inv .2)
+
+pub jobs-waiting-spec : {M : Type 1} → statement M
+jobs-waiting-spec =
+    tie.close
+    (tie.spec
+    Inv-loop
+    μ-loop
+    loop-holds
+    array-read-jobs
+    jobs-requires
+    add-count
+    add-k
+    loop-less
+    loop-again
+    returns)

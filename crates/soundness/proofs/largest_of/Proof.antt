@@ -1,0 +1,17 @@
+-- `scheduler::sound::largest_of` meets its contract. Assumes nothing.
+use mathlib.Core.Path.{_∙_}
+use borrow.Author.Needs.{needs}
+use Rattle.soundness.proofs.largest_of.Statement.{statement}
+use Rattle.soundness.proofs.largest_of.Tie as tie
+
+larger-of-requires : tie.Need-larger-of-requires
+larger-of-requires c κs = search needs
+
+larger-of-requires-2 : tie.Need-larger-of-requires-2
+larger-of-requires-2 c κs = search needs
+
+returns : tie.Need-returns
+returns c = c .larger-of2 .ensures ∙ rw (c .before .larger-of .ensures)
+
+pub largest-of-spec : {M : Type 1} → statement M
+largest-of-spec = tie.close (tie.spec larger-of-requires larger-of-requires-2 returns)

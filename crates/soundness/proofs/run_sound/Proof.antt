@@ -1,0 +1,66 @@
+-- `scheduler::sound::run_sound` meets its contract: the table first, so that no row past its arrays is asked for.
+-- Assumes nothing.
+use mathlib.Core.Path.{_≡_, sym, _∙_}
+use mathlib.Core.Bool.{true}
+use borrow.Author.Tests.{not-true, not-false}
+use Rattle.table.specs.Rules.{tableKeeps}
+use Rattle.soundness.proofs.Checks.{table-breaks, state-asked, servers-fit, tasks-fit}
+use borrow.Author.Needs.{needs}
+use Rattle.soundness.proofs.run_sound.Statement.{statement}
+use Rattle.soundness.proofs.run_sound.Tie as tie
+
+table-keeps-requires : tie.Need-table-keeps-requires
+table-keeps-requires c κs = search needs
+
+returns : tie.Need-returns
+returns c =
+    table-breaks (c .before .before .args .t) (c .before .before .args .s)
+    (sym (c .before .table-keeps .ensures) ∙ not-true _ (c .if1 .taken))
+
+kept : (c : tie.Else1) → tableKeeps (c .before .before .args .t) ≡ true
+kept c = sym (c .before .table-keeps .ensures) ∙ not-false _ (c .if1 .left)
+
+servers-sound-requires : tie.Need-servers-sound-requires
+servers-sound-requires c κs = servers-fit _ (kept c)
+
+tasks-sound-requires : tie.Need-tasks-sound-requires
+tasks-sound-requires c κs = tasks-fit _ (kept (c .before))
+
+last-sound-requires : tie.Need-last-sound-requires
+last-sound-requires c κs = tasks-fit _ (kept (c .before .before))
+
+counts-sound-requires : tie.Need-counts-sound-requires
+counts-sound-requires c κs = tasks-fit _ (kept (c .before .before .before))
+
+slice-aggregate-all-of : tie.Need-slice-aggregate-all-of
+slice-aggregate-all-of c = search needs
+
+all-of-requires : tie.Need-all-of-requires
+all-of-requires c κs = search needs
+
+returns-2 : tie.Need-returns-2
+returns-2 c =
+    c .all-of .ensures
+    ∙ rw (
+      c .before .before .before .before .before .servers-sound .ensures,
+      c .before .before .before .before .tasks-sound .ensures,
+      c .before .before .before .last-sound .ensures,
+      c .before .before .counts-sound .ensures,
+    )
+    (state-asked (c .before .before .before .before .before .before .before .before .args .t)
+    (c .before .before .before .before .before .before .before .before .args .s)
+    (kept (c .before .before .before .before .before .before)))
+
+pub run-sound-spec : {M : Type 1} → statement M
+run-sound-spec =
+    tie.close
+    (tie.spec
+    table-keeps-requires
+    returns
+    servers-sound-requires
+    tasks-sound-requires
+    last-sound-requires
+    counts-sound-requires
+    slice-aggregate-all-of
+    all-of-requires
+    returns-2)

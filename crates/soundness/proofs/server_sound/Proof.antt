@@ -1,0 +1,22 @@
+-- `scheduler::sound::server_sound` meets its contract: the list lent is the list of the rule. Assumes nothing.
+use Rattle.soundness.specs.Inner.{serverTests}
+use borrow.Author.Needs.{needs}
+use Rattle.soundness.proofs.server_sound.Statement.{statement}
+use Rattle.soundness.proofs.server_sound.Tie as tie
+
+largest-of-requires : tie.Need-largest-of-requires
+largest-of-requires c κs = search needs
+
+slice-aggregate-all-of : tie.Need-slice-aggregate-all-of
+slice-aggregate-all-of c = search needs
+
+all-of-requires : tie.Need-all-of-requires
+all-of-requires c κs = search needs
+
+returns : tie.Need-returns
+unfolding serverTests
+returns c = cc
+
+pub server-sound-spec : {M : Type 1} → statement M
+server-sound-spec =
+    tie.close (tie.spec largest-of-requires slice-aggregate-all-of all-of-requires returns)
