@@ -1,4 +1,5 @@
 pub mod Rows
+pub mod Sheets
 pub mod Judging
 pub mod Marking
 pub mod Settling

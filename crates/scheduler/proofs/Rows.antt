@@ -6,14 +6,16 @@ use Prim.Native.Nat.{ℕ, zero, suc, _+_}
 use native.Mathlib.Omega.{arith}
 use native.Mathlib.Nat.{add-zero}
 use native.Mathlib.Numerals.{add-one}
+use lib.Dec.{eqb}
 use lib.ListN.{getD, set}
 use lib.Seq.{set-getD}
-use borrow.Author.Tests.{eq-eqb, ne-eqb}
+use Rattle.laws.specs.Choice.{if_then_else_}
 use Rattle.laws.specs.Rows.{anew, sumBelow}
 use Rattle.laws.proofs.Anew.{anew-past}
 use Rattle.laws.proofs.Rows.{sum-next}
-use Rattle.table.specs.declared.Table.{Table}
-use Rattle.table.specs.Rows.{periodAt, taskAt, isLow}
+use Rattle.table.specs.declared.Server.{Server}
+use Rattle.table.specs.declared.Task.{Task}
+use Rattle.table.specs.Rows.{noServer, noTask, isLow}
 use Rattle.scheduler.specs.Settle.{refilled, keptOf, goneOf}
 
 put-suc : (f : ℕ → ℕ → ℕ) (xs : List ℕ) (i d : ℕ) → set (anew i f xs) i (f i (getD xs i d)) ≡ anew (suc i) f xs
@@ -35,31 +37,25 @@ module _ (f : ℕ → ℕ → ℕ) (xs ys : List ℕ) (i d : ℕ) (e : ys ≡ an
   anew-stay h = sym (set-getD ys i d) ∙ anew-put (getD ys i d) h
 
 -- A row is refilled exactly if its elapsed count, as it was, equals its period.
-module _ (t : Table) (e₀ e xs ys : List ℕ) (i : ℕ) (p : e ≡ anew i (refilled t e₀) e₀)
-    (q : ys ≡ anew i (refilled t e₀) xs) where
-  pub refill-put : getD e i 0 ≡ periodAt t i → set ys i 0 ≡ anew (i + 1) (refilled t e₀) xs
-  refill-put h =
-      anew-put (refilled t e₀) xs ys i 0 q 0
-      (rw (eq-eqb (getD e₀ i 0) (periodAt t i) (sym (anew-row (refilled t e₀) e₀ e i 0 p) ∙ h)))
-
-  pub refill-stay : (getD e i 0 ≡ periodAt t i → ⊥) → ys ≡ anew (i + 1) (refilled t e₀) xs
-  refill-stay h =
-      anew-stay (refilled t e₀) xs ys i 0 q
-      (rw (ne-eqb (getD e₀ i 0) (periodAt t i) (λ x. h (anew-row (refilled t e₀) e₀ e i 0 p ∙ x))))
+module _ (ss : List Server) (e₀ e xs ys : List ℕ) (i : ℕ) (p : e ≡ anew i (refilled ss e₀) e₀)
+    (q : ys ≡ anew i (refilled ss e₀) xs) where
+  pub refill-put : (v : ℕ) → v ≡ (if eqb (getD e i 0) (getD ss i noServer .period .0) then 0 else getD ys i 0) →
+      set ys i v ≡ anew (i + 1) (refilled ss e₀) xs
+  refill-put v h = anew-put (refilled ss e₀) xs ys i 0 q v (rw (h, anew-row (refilled ss e₀) e₀ e i 0 p))
 
 -- On entering D2 the counts of a task are cleared exactly if its level is LO, and its jobs counted.
-module _ (t : Table) (xs ys : List ℕ) (k : ℕ) (e : ys ≡ anew k (keptOf t) xs) where
-  pub discard-put : isLow (taskAt t k .level) ≡ true → set ys k 0 ≡ anew (k + 1) (keptOf t) xs
-  discard-put l = anew-put (keptOf t) xs ys k 0 e 0 (rw l)
+module _ (ts : List Task) (xs ys : List ℕ) (k : ℕ) (e : ys ≡ anew k (keptOf ts) xs) where
+  pub discard-put : isLow (getD ts k noTask .level) ≡ true → set ys k 0 ≡ anew (k + 1) (keptOf ts) xs
+  discard-put l = anew-put (keptOf ts) xs ys k 0 e 0 (rw l)
 
-  pub discard-stay : isLow (taskAt t k .level) ≡ false → ys ≡ anew (k + 1) (keptOf t) xs
-  discard-stay l = anew-stay (keptOf t) xs ys k 0 e (rw l)
+  pub discard-stay : isLow (getD ts k noTask .level) ≡ false → ys ≡ anew (k + 1) (keptOf ts) xs
+  discard-stay l = anew-stay (keptOf ts) xs ys k 0 e (rw l)
 
-  pub discard-more : (n : ℕ) → n ≡ sumBelow k (λ j. goneOf t j (getD xs j 0)) → isLow (taskAt t k .level) ≡ true →
-      n + getD ys k 0 ≡ sumBelow (k + 1) (λ j. goneOf t j (getD xs j 0))
-  discard-more n h l = rw (h, anew-row (keptOf t) xs ys k 0 e, sum-next (λ j. goneOf t j (getD xs j 0)) k) (rw l)
+  pub discard-more : (n : ℕ) → n ≡ sumBelow k (λ j. goneOf ts j (getD xs j 0)) → isLow (getD ts k noTask .level) ≡ true →
+      n + getD ys k 0 ≡ sumBelow (k + 1) (λ j. goneOf ts j (getD xs j 0))
+  discard-more n h l = rw (h, anew-row (keptOf ts) xs ys k 0 e, sum-next (λ j. goneOf ts j (getD xs j 0)) k) (rw l)
 
-pub discard-none : (t : Table) (xs : List ℕ) (k n : ℕ) → n ≡ sumBelow k (λ j. goneOf t j (getD xs j 0)) →
-    isLow (taskAt t k .level) ≡ false →
-    n ≡ sumBelow (k + 1) (λ j. goneOf t j (getD xs j 0))
-discard-none t xs k n h l = rw (h, sum-next (λ j. goneOf t j (getD xs j 0)) k) (rw (l, add-zero))
+pub discard-none : (ts : List Task) (xs : List ℕ) (k n : ℕ) → n ≡ sumBelow k (λ j. goneOf ts j (getD xs j 0)) →
+    isLow (getD ts k noTask .level) ≡ false →
+    n ≡ sumBelow (k + 1) (λ j. goneOf ts j (getD xs j 0))
+discard-none ts xs k n h l = rw (h, sum-next (λ j. goneOf ts j (getD xs j 0)) k) (rw (l, add-zero))

@@ -24,16 +24,16 @@ anew-same (suc n) f [] h = refl
 anew-same (suc n) f (x ∷ xs) h = rw (h 0 x, anew-same n (λ i. f (suc i)) xs (λ i. h (suc i)))
 
 module _ (t : Table) (before : Mode) (s : State) where
-  pub step2-entered : (w c : List ℕ) → enters before (s .mode) ≡ true → w ≡ anew (t .ntasks) (keptOf t) (s .waiting) →
-      c ≡ anew (t .ntasks) (keptOf t) (s .runs) → step2 t before s ≡ withQueues s w c
+  pub step2-entered : (w c : List ℕ) → enters before (s .mode) ≡ true → w ≡ anew (t .ntasks) (keptOf (t .tasks)) (s .waiting) →
+      c ≡ anew (t .ntasks) (keptOf (t .tasks)) (s .runs) → step2 t before s ≡ withQueues s w c
   unfolding step2 drops
   step2-entered w c e p q =
-      let same : (k x : ℕ) → (if drops t before s k then 0 else x) ≡ keptOf t k x = λ k x. rw e in
+      let same : (k x : ℕ) → (if drops t before s k then 0 else x) ≡ keptOf (t .tasks) k x = λ k x. rw e in
       rw (
         p,
         q,
-        anew-cong (t .ntasks) (λ k x. if drops t before s k then 0 else x) (keptOf t) (s .waiting) (λ k x l. same k x),
-        anew-cong (t .ntasks) (λ k x. if drops t before s k then 0 else x) (keptOf t) (s .runs) (λ k x l. same k x),
+        anew-cong (t .ntasks) (λ k x. if drops t before s k then 0 else x) (keptOf (t .tasks)) (s .waiting) (λ k x l. same k x),
+        anew-cong (t .ntasks) (λ k x. if drops t before s k then 0 else x) (keptOf (t .tasks)) (s .runs) (λ k x l. same k x),
       )
 
   pub step2-not : (w c : List ℕ) → enters before (s .mode) ≡ false → w ≡ s .waiting → c ≡ s .runs →
@@ -49,9 +49,9 @@ module _ (t : Table) (before : Mode) (s : State) where
       )
 
   pub discards-entered : enters before (s .mode) ≡ true →
-      sumBelow (t .ntasks) (discards t before s) ≡ sumBelow (t .ntasks) (λ k. goneOf t k (waitingAt s k))
+      sumBelow (t .ntasks) (discards t before s) ≡ sumBelow (t .ntasks) (λ k. goneOf (t .tasks) k (waitingAt s k))
   unfolding discards drops
-  discards-entered e = sum-cong (discards t before s) (λ k. goneOf t k (waitingAt s k)) (t .ntasks) (λ k l. rw e)
+  discards-entered e = sum-cong (discards t before s) (λ k. goneOf (t .tasks) k (waitingAt s k)) (t .ntasks) (λ k l. rw e)
 
   pub discards-not : enters before (s .mode) ≡ false → sumBelow (t .ntasks) (discards t before s) ≡ 0
   unfolding discards drops
@@ -66,8 +66,8 @@ step3-is t s m e = rw e (go (anyBelow (t .ntasks) (waitsAt (s .waiting))))
     go true = refl
     go false = refl
 
-pub step4-is : (t : Table) (s : State) (u e : List ℕ) → u ≡ anew (t .nservers) (refilled t (s .elapsed)) (s .used) →
-    e ≡ anew (t .nservers) (refilled t (s .elapsed)) (s .elapsed) → step4 t s ≡ withBudgets s u e
+pub step4-is : (t : Table) (s : State) (u e : List ℕ) → u ≡ anew (t .nservers) (refilled (t .servers) (s .elapsed)) (s .used) →
+    e ≡ anew (t .nservers) (refilled (t .servers) (s .elapsed)) (s .elapsed) → step4 t s ≡ withBudgets s u e
 unfolding step4
 step4-is t s u e p q = rw (p, q)
 

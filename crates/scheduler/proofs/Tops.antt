@@ -142,35 +142,19 @@ module _ (t : Table) (s : State) where
           (rw q (ltb-false (getD height o 0) (taskPriorityAt t k) (rw f at h))) g
 
   -- the walk over servers: the test of the code, `w` being what the first walk found of server i
-  abbrev pub Tried : ℕ → ℕ → ℕ → Bool
-  Tried i w height =
-      ltb height (priorityAt t i) &&
-      (ltb (usedAt s i) (capacityAt t (s .mode) i) && (isTimed (serverAt t i .kind) || ltb 0 w))
+  abbrev pub Tried : ℕ → ℕ → Bool
+  Tried i w = ltb (usedAt s i) (capacityAt t (s .mode) i) && (isTimed (serverAt t i .kind) || ltb 0 w)
 
-  tried-is : (i w height : ℕ) → ltb 0 w ≡ waits t s i → Tried i w height ≡ (ltb height (priorityAt t i) && able t s i)
+  tried-is : (i w : ℕ) → ltb 0 w ≡ waits t s i → Tried i w ≡ able t s i
   unfolding able
-  tried-is i w height e = rw e
+  tried-is i w e = rw e
 
-  pub able-take : (i w height row : ℕ) → Top i (able t s) (priorityAt t) height row → ltb 0 w ≡ waits t s i →
-      Tried i w height ≡ true →
-      Top (i + 1) (able t s) (priorityAt t) (priorityAt t i) i
-  able-take i w height row p e h =
-      let q : (ltb height (priorityAt t i) && able t s i) ≡ true = sym (tried-is i w height e) ∙ h in
-      top-take (able t s) (priorityAt t) i height row p
-      (and-right (ltb height (priorityAt t i)) (able t s i) q)
-      (ltb-true height (priorityAt t i) (and-left (ltb height (priorityAt t i)) (able t s i) q))
+  module _ (i w height row : ℕ) (p : Top i (able t s) (priorityAt t) height row) (e : ltb 0 w ≡ waits t s i) where
+    pub able-take : height < priorityAt t i → Tried i w ≡ true → Top (i + 1) (able t s) (priorityAt t) (priorityAt t i) i
+    able-take l h = top-take (able t s) (priorityAt t) i height row p (sym (tried-is i w e) ∙ h) l
 
-  pub able-leave : (i w height row : ℕ) → Top i (able t s) (priorityAt t) height row → ltb 0 w ≡ waits t s i →
-      1 ≤ priorityAt t i →
-      Tried i w height ≡ false → Top (i + 1) (able t s) (priorityAt t) height row
-  able-leave i w height row p e g h = go (ltb height (priorityAt t i)) refl
-    where
-      q : (ltb height (priorityAt t i) && able t s i) ≡ false
-      q = sym (tried-is i w height e) ∙ h
-
-      go : (b : Bool) → ltb height (priorityAt t i) ≡ b → Top (i + 1) (able t s) (priorityAt t) height row
-      go true f = top-skip (able t s) (priorityAt t) i height row p (rw f at q)
-      go false f = top-keep (able t s) (priorityAt t) i height row p (ltb-false height (priorityAt t i) f) g
+    pub able-skip : Tried i w ≡ false → Top (i + 1) (able t s) (priorityAt t) height row
+    able-skip h = top-skip (able t s) (priorityAt t) i height row p (sym (tried-is i w e) ∙ h)
 
   pub waits-found : (i h x : ℕ) → Top (t .ntasks) (waitsFor t s i) (taskPriorityAt t) h x → ltb 0 h ≡ waits t s i
   unfolding waits

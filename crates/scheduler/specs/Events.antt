@@ -6,6 +6,7 @@ use Prim.Native.Nat.{ℕ, _<_}
 use lib.ListN.{length}
 use Rattle.table.specs.declared.Level.{Level}
 use Rattle.table.specs.declared.Table.{Table}
+use Rattle.table.specs.declared.Task.{Task}
 use Rattle.table.specs.Rows.{taskAt}
 use Rattle.run.specs.Sound.{sound}
 use Rattle.run.specs.Release.{releaseOf}
@@ -20,10 +21,11 @@ Admits l h w k d w′ =
     (t : Table) (used elapsed runs : List ℕ) → sound (runOf t h used elapsed w runs) ≡ true → k < t .ntasks →
     taskAt t k .level ≡ l → answeredOf t d used elapsed w′ runs ≡ releaseOf (runOf t h used elapsed w runs) k
 
--- a release of task k makes w′ of the waiting jobs w, whatever the other counts of the state are
-abbrev pub Releases : Table → Head → List ℕ → ℕ → Step → List ℕ → Type 0
-Releases t h w k d w′ =
-    (used elapsed runs : List ℕ) → sound (runOf t h used elapsed w runs) ≡ true →
+-- A release of task k, among n tasks ts, makes w′ of the waiting jobs w, whatever the rest of the table and the other counts
+-- of the state are.
+abbrev pub Releases : ℕ → List Task → Head → List ℕ → ℕ → Step → List ℕ → Type 0
+Releases n ts h w k d w′ =
+    (t : Table) (used elapsed runs : List ℕ) → t .ntasks ≡ n → t .tasks ≡ ts → sound (runOf t h used elapsed w runs) ≡ true →
     answeredOf t d used elapsed w′ runs ≡ releaseOf (runOf t h used elapsed w runs) k
 
 -- what a step asks for: a sound state, whose counts stand in arrays of these lengths

@@ -1,4 +1,5 @@
 pub mod Parts
+pub mod Sheets
 pub mod Settle
 pub mod Choose
 pub mod Advance

@@ -6,6 +6,7 @@ use Rattle.table.specs.declared.Table.{Table}
 use Rattle.run.specs.declared.State.{State}
 use Rattle.run.specs.declared.Run.{Run}
 use Rattle.run.specs.declared.Answered.{Answered}
+use Rattle.scheduler.specs.declared.parts.Front.{Front}
 use Rattle.scheduler.specs.declared.parts.Head.{Head}
 use Rattle.scheduler.specs.declared.parts.Step.{Step}
 
@@ -35,3 +36,6 @@ answeredOf t d used elapsed waiting runs =
 
 abbrev pub headOf : State → Head
 headOf s = record { mode = s .mode; last = s .last; ticks = s .ticks; accepted = s .accepted }
+
+abbrev pub frontOf : Table → Front
+frontOf t = record { tick = t .tick; nservers = t .nservers; ntasks = t .ntasks }

@@ -9,9 +9,10 @@ use Rattle.laws.specs.Choice.{if_then_else_}
 use Rattle.laws.specs.Rows.{anyBelow}
 use Rattle.table.specs.declared.Mode.{Mode}
 use Rattle.table.specs.declared.Mode.the-variants.{N}
+use Rattle.table.specs.declared.Server.{Server}
 use Rattle.table.specs.declared.Table.{Table}
 use Rattle.table.specs.declared.Task.{Task}
-use Rattle.table.specs.Rows.{taskAt, periodAt, isLow}
+use Rattle.table.specs.Rows.{noServer, noTask, taskAt, isLow}
 use Rattle.run.specs.declared.Last.{Last}
 use Rattle.run.specs.declared.Last.the-variants.{NoJob, Job}
 use Rattle.run.specs.Tick.{Judged as JudgedSo, step1}
@@ -41,11 +42,11 @@ Marks row h mark w c w′ c′ r =
     ≡ record { state = stateOf (atMode h (r .mode)) used elapsed w′ c′; left = r .left }
 
 -- step 2, on entering D2: what is left of a count of task k, and what is gone
-abbrev pub keptOf : Table → ℕ → ℕ → ℕ
-keptOf t k x = if isLow (taskAt t k .level) then 0 else x
+abbrev pub keptOf : List Task → ℕ → ℕ → ℕ
+keptOf ts k x = if isLow (getD ts k noTask .level) then 0 else x
 
-abbrev pub goneOf : Table → ℕ → ℕ → ℕ
-goneOf t k x = if isLow (taskAt t k .level) then x else 0
+abbrev pub goneOf : List Task → ℕ → ℕ → ℕ
+goneOf ts k x = if isLow (getD ts k noTask .level) then x else 0
 
 -- step 3
 abbrev pub waitsAt : List ℕ → ℕ → Bool
@@ -55,5 +56,5 @@ abbrev pub modeOn : ℕ → List ℕ → Mode → Mode
 modeOn n waiting m = if anyBelow n (waitsAt waiting) then m else N
 
 -- step 4: a count x of server i, the elapsed counts being as they are before it
-abbrev pub refilled : Table → List ℕ → ℕ → ℕ → ℕ
-refilled t elapsed i x = if eqb (getD elapsed i 0) (periodAt t i) then 0 else x
+abbrev pub refilled : List Server → List ℕ → ℕ → ℕ → ℕ
+refilled ss elapsed i x = if eqb (getD elapsed i 0) (getD ss i noServer .period .0) then 0 else x

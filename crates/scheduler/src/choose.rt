@@ -1,11 +1,12 @@
 // Steps 5 and 6 of a tick. (01, What one tick does.) One walk over the tasks finds each server's highest task with a
 // waiting job, so that the walk over the servers need not look for one.
 
+use crate::parts;
+use crate::parts::Front;
 use run::Turn;
 use table::Kind;
 use table::Mode;
 use table::Server;
-use table::Table;
 use table::Task;
 ghost use mathlib.Core.Path.{_≡_};
 ghost use mathlib.Core.Bool.{true, _&&_, _||_};
@@ -15,6 +16,7 @@ ghost use Rattle.table.specs.Rows.{inMode, isTimed};
 ghost use Rattle.table.specs.Rules.{tableKeeps};
 ghost use Rattle.run.specs.State.{owner};
 ghost use Rattle.run.specs.Tick.{choose, turnOf};
+ghost use Rattle.scheduler.specs.Sheets.{tableOf};
 ghost use Rattle.scheduler.specs.Choose.{foundAt, facing};
 
 // "In N a task belongs to its home, else to its degraded server."
@@ -38,16 +40,12 @@ fn is_higher(waiting: u8, priority: u8, height: u8) -> bool
     height < priority
 }
 
-// Whether a server is able and above what was found so far; `waits` is 0 if no job of it waits.
-fn is_able(s: Server, m: Mode, used: u32, waits: u8, height: u8) -> bool
-    ensures { λ r.
-        ⌜ r ≡ (ltb height (s .priority) && (ltb used (inMode (s .capacity) m) && (isTimed (s .kind) || ltb 0 waits))) ⌝ }
+// Whether a server is able; `waits` is 0 if no job of it waits.
+fn is_able(s: Server, m: Mode, used: u32, waits: u8) -> bool
+    ensures { λ r. ⌜ r ≡ (ltb used (inMode (s .capacity) m) && (isTimed (s .kind) || ltb 0 waits)) ⌝ }
 {
     let kind = s.kind;
     let c = s.capacity;
-    if s.priority <= height {
-        return false;
-    }
     if table::in_mode(c, m) <= used {
         return false;
     }
@@ -70,14 +68,26 @@ fn turn_of(server: usize, height: u8, task: u8) -> Turn
     }
 }
 
-pub(crate) fn choose_turn(t: Table, m: Mode, used: &[u32; 32], waiting: &[u8; 64]) -> Turn
-    requires { ⌜ tableKeeps t ≡ true ⌝ }
-    ensures { λ r. ⌜ r ≡ choose t (facing m (now (used .entry)) (now (waiting .entry))) ⌝ }
+pub(crate) fn choose_turn<'a>(
+    f: Front,
+    ranks: &'a [u8; 96],
+    times: &'a [u32; 128],
+    tags: &'a [u8; 256],
+    limits: &'a [u32; 192],
+    m: Mode,
+    used: &[u32; 32],
+    waiting: &[u8; 64],
+) -> Turn
+    requires { ⌜ tableKeeps (tableOf f (now ranks) (now times) (now tags) (now limits)) ≡ true ⌝ }
+    ensures { λ r.
+        ⌜ r ≡ choose
+        (tableOf f (now (ranks .entry)) (now (times .entry)) (now (tags .entry)) (now (limits .entry)))
+        (facing m (now (used .entry)) (now (waiting .entry))) ⌝ }
 {
     let mut top = [0u8; 32];
     let mut height = [0u8; 32];
-    for k in 0..t.ntasks {
-        let row = t.tasks[k];
+    for k in 0..f.ntasks {
+        let row = parts::task_at(tags, limits, k);
         let o = owner_of(m, row);
         if is_higher(waiting[k], row.priority, height[o]) {
             height[o] = row.priority;
@@ -86,11 +96,13 @@ pub(crate) fn choose_turn(t: Table, m: Mode, used: &[u32; 32], waiting: &[u8; 64
     }
     let mut best: usize = 0;
     let mut high: u8 = 0;
-    for i in 0..t.nservers {
-        let s = t.servers[i];
-        if is_able(s, m, used[i], height[i], high) {
-            high = s.priority;
-            best = i;
+    for i in 0..f.nservers {
+        let s = parts::server_at(ranks, times, i);
+        if high < s.priority {
+            if is_able(s, m, used[i], height[i]) {
+                high = s.priority;
+                best = i;
+            }
         }
     }
     if high == 0 {

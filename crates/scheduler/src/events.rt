@@ -2,6 +2,8 @@
 
 use crate::advance;
 use crate::choose;
+use crate::parts;
+use crate::parts::Front;
 use crate::parts::Head;
 use crate::parts::Step;
 use crate::settle;
@@ -13,13 +15,13 @@ use run::TickAnswer;
 use table::Level;
 use table::Mode;
 use table::Refusal;
-use table::Table;
 ghost use mathlib.Core.Path.{_≡_};
 ghost use mathlib.Core.Bool.{not, _&&_, _||_};
 ghost use Prim.Native.Nat.{_≤_, _<_};
 ghost use Rattle.table.specs.Rows.{isLow};
 ghost use Rattle.run.specs.Sound.{isD2};
 ghost use Rattle.run.specs.Tick.{tickOf, ranJob};
+ghost use Rattle.scheduler.specs.Sheets.{tasksIn, tableOf};
 ghost use Rattle.scheduler.specs.Parts.{runOf, answeredOf};
 ghost use Rattle.scheduler.specs.Events.{Admits, Releases, Ready};
 
@@ -74,18 +76,26 @@ fn admit(l: Level, h: Head, waiting: &mut [u8; 64], task: usize) -> Step
     }
 }
 
-// A release. Refused: 6, 7, 8, 10.
-pub(crate) fn release_in(t: Table, h: Head, waiting: &mut [u8; 64], task: usize) -> Step
-    requires { ⌜ t .ntasks ≤ 64 ⌝ }
-    ensures { λ r. ⌜ Releases t h (now (waiting .entry)) task r (now (waiting .exit)) ⌝ }
+// A release. Refused: 6, 7, 8, 10. n tasks are in use.
+pub(crate) fn release_in<'a>(
+    n: usize,
+    tags: &'a [u8; 256],
+    limits: &'a [u32; 192],
+    h: Head,
+    waiting: &mut [u8; 64],
+    task: usize,
+) -> Step
+    requires { ⌜ n ≤ 64 ⌝ }
+    ensures { λ r.
+        ⌜ Releases n (tasksIn (now (tags .entry)) (now (limits .entry))) h (now (waiting .entry)) task r (now (waiting .exit)) ⌝ }
 {
-    if t.ntasks <= task {
+    if n <= task {
         return Step {
             answer: Answer::No(Refusal::NoTask),
             head: h,
         };
     }
-    let row = t.tasks[task];
+    let row = parts::task_at(tags, limits, task);
     let l = row.level;
     admit(l, h, waiting, task)
 }
@@ -104,8 +114,12 @@ fn mark_may_come(last: Last, mark: bool) -> bool
 }
 
 // One tick, steps 1 to 7. Refused: 9, 10.
-pub(crate) fn tick_in(
-    t: Table,
+pub(crate) fn tick_in<'a>(
+    f: Front,
+    ranks: &'a [u8; 96],
+    times: &'a [u32; 128],
+    tags: &'a [u8; 256],
+    limits: &'a [u32; 192],
     h: Head,
     used: &mut [u32; 32],
     elapsed: &mut [u32; 32],
@@ -113,10 +127,16 @@ pub(crate) fn tick_in(
     runs: &mut [u32; 64],
     mark: bool,
 ) -> Step
-    requires { ⌜ Ready t h (now used) (now elapsed) (now waiting) (now runs) ⌝ }
+    requires { ⌜ Ready
+        (tableOf f (now ranks) (now times) (now tags) (now limits))
+        h (now used) (now elapsed) (now waiting) (now runs) ⌝ }
     ensures { λ r.
-        ⌜ answeredOf t r (now (used .exit)) (now (elapsed .exit)) (now (waiting .exit)) (now (runs .exit))
-        ≡ tickOf (runOf t h (now (used .entry)) (now (elapsed .entry)) (now (waiting .entry)) (now (runs .entry))) mark ⌝ }
+        ⌜ answeredOf
+        (tableOf f (now (ranks .entry)) (now (times .entry)) (now (tags .entry)) (now (limits .entry)))
+        r (now (used .exit)) (now (elapsed .exit)) (now (waiting .exit)) (now (runs .exit))
+        ≡ tickOf (runOf
+        (tableOf f (now (ranks .entry)) (now (times .entry)) (now (tags .entry)) (now (limits .entry)))
+        h (now (used .entry)) (now (elapsed .entry)) (now (waiting .entry)) (now (runs .entry))) mark ⌝ }
 {
     let before = h.mode;
     let last = h.last;
@@ -135,19 +155,19 @@ pub(crate) fn tick_in(
         };
     }
     let k = settle::last_row(last);
-    let row = t.tasks[k];
+    let row = parts::task_at(tags, limits, k);
     let m = settle::mark_job(row, h, waiting, runs, mark);
     let risen = m.mode;
     let left = m.left;
     let mut discarded: u32 = 0;
     if settle::enters_d2(before, risen) {
-        discarded = settle::discard(t, waiting, runs);
+        discarded = settle::discard(f.ntasks, tags, limits, waiting, runs);
     }
-    let mode = settle::settled_mode(t.ntasks, waiting, risen);
-    settle::refill(t, used, elapsed);
-    let turn = choose::choose_turn(t, mode, used, waiting);
+    let mode = settle::settled_mode(f.ntasks, waiting, risen);
+    settle::refill(f.nservers, ranks, times, used, elapsed);
+    let turn = choose::choose_turn(f, ranks, times, tags, limits, mode, used, waiting);
     advance::charge(turn, used, runs);
-    advance::age(t.nservers, elapsed);
+    advance::age(f.nservers, elapsed);
     let ran = advance::last_of(turn);
     let next = ticks + 1;
     let answer = TickAnswer {

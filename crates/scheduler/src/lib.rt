@@ -73,7 +73,9 @@ pub fn release(r: Run, task: usize) -> Answered
     let elapsed = s.elapsed;
     let mut waiting = s.waiting;
     let runs = s.runs;
-    let d = events::release_in(t, h, &mut waiting, task);
+    let rows = t.tasks;
+    let p = parts::task_sheet(rows);
+    let d = events::release_in(t.ntasks, &p.tags, &p.limits, h, &mut waiting, task);
     parts::join(t, d, used, elapsed, waiting, runs)
 }
 
@@ -94,6 +96,23 @@ pub fn tick(r: Run, mark: bool) -> Answered
     let mut elapsed = s.elapsed;
     let mut waiting = s.waiting;
     let mut runs = s.runs;
-    let d = events::tick_in(t, h, &mut used, &mut elapsed, &mut waiting, &mut runs, mark);
+    let f = parts::front_of(t);
+    let servers = t.servers;
+    let tasks = t.tasks;
+    let p = parts::server_sheet(servers);
+    let q = parts::task_sheet(tasks);
+    let d = events::tick_in(
+        f,
+        &p.ranks,
+        &p.times,
+        &q.tags,
+        &q.limits,
+        h,
+        &mut used,
+        &mut elapsed,
+        &mut waiting,
+        &mut runs,
+        mark,
+    );
     parts::join(t, d, used, elapsed, waiting, runs)
 }

@@ -1,12 +1,13 @@
 // A buffer of an event file, served. Soundness (13) is decided once for all of its bytes; behind that door stands a loop
-// over them, which is lent the counts of the rows and has the rest of the state at hand. A table is handed on once a line
-// and not once a byte.
+// over them, which is lent the table's rows and their counts and has the rest of the state at hand.
 
 use crate::events;
 use crate::parts;
+use crate::parts::Front;
 use crate::parts::Head;
 use lines::EventLine;
 use lines::Held;
+use lines::LONGEST;
 use lines::Served;
 use lines::Taking;
 use lines::answer::put_another;
@@ -18,7 +19,9 @@ use table::Refusal;
 use table::Table;
 ghost use mathlib.Core.Path.{_≡_};
 ghost use Rattle.lines.specs.Buffer.{serveOf};
+ghost use Rattle.lines.specs.Held.{held};
 ghost use Rattle.scheduler.specs.Parts.{runOf};
+ghost use Rattle.scheduler.specs.Sheets.{tableOf};
 ghost use Rattle.scheduler.specs.Events.{Ready};
 ghost use Rattle.scheduler.specs.Serve.{Closes, fedOf, fedFrom};
 
@@ -40,37 +43,58 @@ pub struct Fed {
 }
 
 // The line that is held is closed: the event that it says is taken or refused, and answered.
-fn close_line(
-    t: Table,
+fn close_line<'a>(
+    f: Front,
+    ranks: &'a [u8; 96],
+    times: &'a [u32; 128],
+    tags: &'a [u8; 256],
+    limits: &'a [u32; 192],
     h: Head,
     used: &mut [u32; 32],
     elapsed: &mut [u32; 32],
     waiting: &mut [u8; 64],
     runs: &mut [u32; 64],
-    held: Held,
+    bytes: &[u8; LONGEST],
+    len: usize,
     room: &mut [u8],
     at: usize,
 ) -> Closed
-    requires { ⌜ Ready t h (now used) (now elapsed) (now waiting) (now runs) ⌝ }
+    requires { ⌜ Ready
+        (tableOf f (now ranks) (now times) (now tags) (now limits))
+        h (now used) (now elapsed) (now waiting) (now runs) ⌝ }
     ensures { λ r.
-        ⌜ Closes (runOf t h (now (used .entry)) (now (elapsed .entry)) (now (waiting .entry)) (now (runs .entry)))
-        held (now (room .entry)) at
-        (runOf t (r .head) (now (used .exit)) (now (elapsed .exit)) (now (waiting .exit)) (now (runs .exit)))
+        ⌜ Closes (runOf (tableOf f (now (ranks .entry)) (now (times .entry)) (now (tags .entry)) (now (limits .entry)))
+        h (now (used .entry)) (now (elapsed .entry)) (now (waiting .entry)) (now (runs .entry)))
+        (held (now (bytes .entry)) len) (now (room .entry)) at
+        (runOf (tableOf f (now (ranks .entry)) (now (times .entry)) (now (tags .entry)) (now (limits .entry)))
+        (r .head) (now (used .exit)) (now (elapsed .exit)) (now (waiting .exit)) (now (runs .exit)))
         (now (room .exit)) (r .at) ⌝ }
 {
-    let line = lines::read_held(held);
+    let line = lines::read_held(bytes, len);
     match line {
         EventLine::Of(e) => {
             match e {
                 Event::Release(task) => {
-                    let d = events::release_in(t, h, waiting, task);
+                    let d = events::release_in(f.ntasks, tags, limits, h, waiting, task);
                     let head = d.head;
                     let answer = d.answer;
                     let next = put_answer(e, answer, room, at);
                     Closed { head, at: next }
                 }
                 Event::Tick(mark) => {
-                    let d = events::tick_in(t, h, used, elapsed, waiting, runs, mark);
+                    let d = events::tick_in(
+                        f,
+                        ranks,
+                        times,
+                        tags,
+                        limits,
+                        h,
+                        used,
+                        elapsed,
+                        waiting,
+                        runs,
+                        mark,
+                    );
                     let head = d.head;
                     let answer = d.answer;
                     let next = put_answer(e, answer, room, at);
@@ -86,8 +110,12 @@ fn close_line(
 }
 
 // The bytes one after the other, as long as an answer has room.
-fn take_bytes(
-    t: Table,
+fn take_bytes<'a>(
+    f: Front,
+    ranks: &'a [u8; 96],
+    times: &'a [u32; 128],
+    tags: &'a [u8; 256],
+    limits: &'a [u32; 192],
     h: Head,
     used: &mut [u32; 32],
     elapsed: &mut [u32; 32],
@@ -97,22 +125,27 @@ fn take_bytes(
     input: &[u8],
     room: &mut [u8],
 ) -> Fed
-    requires { ⌜ Ready t h (now used) (now elapsed) (now waiting) (now runs) ⌝ }
+    requires { ⌜ Ready
+        (tableOf f (now ranks) (now times) (now tags) (now limits))
+        h (now used) (now elapsed) (now waiting) (now runs) ⌝ }
     ensures { λ r.
-        ⌜ fedOf (runOf t (r .head) (now (used .exit)) (now (elapsed .exit)) (now (waiting .exit)) (now (runs .exit)))
+        ⌜ fedOf (runOf (tableOf f (now (ranks .entry)) (now (times .entry)) (now (tags .entry)) (now (limits .entry)))
+        (r .head) (now (used .exit)) (now (elapsed .exit)) (now (waiting .exit)) (now (runs .exit)))
         r (now (room .exit))
-        ≡ fedFrom (runOf t h (now (used .entry)) (now (elapsed .entry)) (now (waiting .entry)) (now (runs .entry)))
+        ≡ fedFrom (runOf (tableOf f (now (ranks .entry)) (now (times .entry)) (now (tags .entry)) (now (limits .entry)))
+        h (now (used .entry)) (now (elapsed .entry)) (now (waiting .entry)) (now (runs .entry)))
         line (now (input .entry)) (now (room .entry)) ⌝ }
 {
     let mut head = h;
-    let mut held = line;
+    let mut bytes = line.bytes;
+    let mut len = line.len;
     let mut at: usize = 0;
     let mut i: usize = 0;
     while i < input.len() {
         if room.len() - at < ANSWER {
             return Fed {
                 head,
-                held,
+                held: Held { bytes, len },
                 eaten: i,
                 put: at,
             };
@@ -120,18 +153,32 @@ fn take_bytes(
         let b = input[i];
         i += 1;
         if b != b'\n' {
-            held = lines::hold(held, b);
+            len = lines::hold(&mut bytes, len, b);
             continue;
         }
-        let c = close_line(t, head, used, elapsed, waiting, runs, held, room, at);
+        let c = close_line(
+            f,
+            ranks,
+            times,
+            tags,
+            limits,
+            head,
+            used,
+            elapsed,
+            waiting,
+            runs,
+            &bytes,
+            len,
+            room,
+            at,
+        );
         head = c.head;
         at = c.at;
-        let bytes = held.bytes;
-        held = Held { bytes, len: 0 };
+        len = 0;
     }
     Fed {
         head,
-        held,
+        held: Held { bytes, len },
         eaten: i,
         put: at,
     }
@@ -184,8 +231,17 @@ pub fn serve(r: Run, h: Held, input: &[u8], room: &mut [u8]) -> Served
     let mut elapsed = s.elapsed;
     let mut waiting = s.waiting;
     let mut runs = s.runs;
+    let front = parts::front_of(t);
+    let servers = t.servers;
+    let tasks = t.tasks;
+    let p = parts::server_sheet(servers);
+    let q = parts::task_sheet(tasks);
     let f = take_bytes(
-        t,
+        front,
+        &p.ranks,
+        &p.times,
+        &q.tags,
+        &q.limits,
         head,
         &mut used,
         &mut elapsed,

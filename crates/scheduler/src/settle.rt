@@ -1,17 +1,19 @@
 // Steps 1 to 4 of a tick. (01, What one tick does.)
 
+use crate::parts;
 use crate::parts::Head;
 use run::Last;
 use run::Left;
 use table::Mode;
-use table::Table;
 use table::Task;
 ghost use mathlib.Core.Path.{_≡_};
 ghost use Prim.Native.Nat.{_-_, _≤_, _<_};
 ghost use lib.ListN.{getD, set};
+ghost use Rattle.laws.specs.Choice.{if_then_else_};
 ghost use Rattle.laws.specs.Rows.{anew, anyBelow, sumBelow};
 ghost use Rattle.run.specs.Tick.{judge, enters};
 ghost use Rattle.scheduler.specs.Settle.{judgedOf, lastRow, RanJob, Marks};
+ghost use Rattle.scheduler.specs.Sheets.{serversIn, tasksIn};
 ghost use Rattle.scheduler.specs.Settle.{refilled, keptOf, goneOf, waitsAt, modeOn};
 
 // The mode after a job was judged, and whether it was cut.
@@ -158,17 +160,24 @@ pub(crate) fn enters_d2(before: Mode, after: Mode) -> bool
     soundness::is_d2(after)
 }
 
-// Step 2, once D2 is entered: how many were discarded.
-pub(crate) fn discard(t: Table, waiting: &mut [u8; 64], runs: &mut [u32; 64]) -> u32
-    requires { ⌜ t .ntasks ≤ 64 ⌝ }
+// Step 2, once D2 is entered: how many were discarded. n tasks are in use.
+pub(crate) fn discard<'a>(
+    n: usize,
+    tags: &'a [u8; 256],
+    limits: &'a [u32; 192],
+    waiting: &mut [u8; 64],
+    runs: &mut [u32; 64],
+) -> u32
+    requires { ⌜ n ≤ 64 ⌝ }
     ensures { λ r.
-        ⌜ (now (waiting .exit) ≡ anew (t .ntasks) (keptOf t) (now (waiting .entry)))
-        × (now (runs .exit) ≡ anew (t .ntasks) (keptOf t) (now (runs .entry)))
-        × (r ≡ sumBelow (t .ntasks) (λ k. goneOf t k (getD (now (waiting .entry)) k 0))) ⌝ }
+        ⌜ (now (waiting .exit) ≡ anew n (keptOf (tasksIn (now (tags .entry)) (now (limits .entry)))) (now (waiting .entry)))
+        × (now (runs .exit) ≡ anew n (keptOf (tasksIn (now (tags .entry)) (now (limits .entry)))) (now (runs .entry)))
+        × (r ≡ sumBelow n
+        (λ k. goneOf (tasksIn (now (tags .entry)) (now (limits .entry))) k (getD (now (waiting .entry)) k 0))) ⌝ }
 {
     let mut count: u32 = 0;
-    for k in 0..t.ntasks {
-        let row = t.tasks[k];
+    for k in 0..n {
+        let row = parts::task_at(tags, limits, k);
         let l = row.level;
         if table::is_low(l) {
             count += soundness::jobs(waiting[k]);
@@ -214,18 +223,35 @@ pub(crate) fn settled_mode(n: usize, waiting: &[u8; 64], m: Mode) -> Mode
     }
 }
 
-// Step 4.
-pub(crate) fn refill(t: Table, used: &mut [u32; 32], elapsed: &mut [u32; 32])
-    requires { ⌜ t .nservers ≤ 32 ⌝ }
-    ensures { λ r.
-        ⌜ (now (used .exit) ≡ anew (t .nservers) (refilled t (now (elapsed .entry))) (now (used .entry)))
-        × (now (elapsed .exit) ≡ anew (t .nservers) (refilled t (now (elapsed .entry))) (now (elapsed .entry))) ⌝ }
+// What is left of a count, its server's period being over or not.
+fn left_of(over: bool, x: u32) -> u32
+    ensures { λ r. ⌜ r ≡ (if over then 0 else x) ⌝ }
 {
-    for i in 0..t.nservers {
-        let s = t.servers[i];
-        if elapsed[i] == s.period.0 {
-            used[i] = 0;
-            elapsed[i] = 0;
-        }
+    if over {
+        return 0;
+    }
+    x
+}
+
+// Step 4. n servers are in use.
+pub(crate) fn refill<'a>(
+    n: usize,
+    ranks: &'a [u8; 96],
+    times: &'a [u32; 128],
+    used: &mut [u32; 32],
+    elapsed: &mut [u32; 32],
+)
+    requires { ⌜ n ≤ 32 ⌝ }
+    ensures { λ r.
+        ⌜ (now (used .exit) ≡ anew n
+        (refilled (serversIn (now (ranks .entry)) (now (times .entry))) (now (elapsed .entry))) (now (used .entry)))
+        × (now (elapsed .exit) ≡ anew n
+        (refilled (serversIn (now (ranks .entry)) (now (times .entry))) (now (elapsed .entry))) (now (elapsed .entry))) ⌝ }
+{
+    for i in 0..n {
+        let s = parts::server_at(ranks, times, i);
+        let over = elapsed[i] == s.period.0;
+        used[i] = left_of(over, used[i]);
+        elapsed[i] = left_of(over, elapsed[i]);
     }
 }

@@ -5,6 +5,9 @@ use mathlib.Core.Bool.{true}
 use borrow.Author.Tests.{not-true, not-false}
 use Rattle.run.specs.Sound.{sound}
 use Rattle.run.proofs.Shape.{Shaped}
+use Rattle.scheduler.specs.Sheets.{tableOf}
+use Rattle.scheduler.proofs.Sheets.{table-back}
+use Rattle.scheduler.proofs.Keeping.{ready-parts, tick-parts}
 use Rattle.scheduler.proofs.Ticking.{tick-unsound}
 use borrow.Author.Needs.{needs}
 use Rattle.scheduler.proofs.tick.Statement.{statement}
@@ -27,31 +30,65 @@ is-sound c = sym (c .before .run-sound .ensures) ∙ not-false _ (c .if1 .left)
 shaped : (c : tie.Start) → Shaped (c .args .r .state)
 shaped c = record { used = search needs; elapsed = search needs; waiting = search needs; runs = search needs }
 
+front-of-requires : tie.Need-front-of-requires
+front-of-requires c κs = search needs
+
+server-sheet-requires : tie.Need-server-sheet-requires
+server-sheet-requires c κs = search needs
+
+task-sheet-requires : tie.Need-task-sheet-requires
+task-sheet-requires c κs = search needs
+
+-- places: the head, the front, the sheets, from each to the entry
+abbrev entry : tie.After-head-of → tie.Start
+entry c = c .before .before .before .before .before
+
+abbrev headed : tie.After-task-sheet → tie.After-head-of
+headed c = c .before .before .before .before .before .before .before .before .before
+
+abbrev sheets : tie.After-runs2 → tie.After-task-sheet
+sheets c = c .before .before .before .before .before .before .before .before .before .before
+
+-- the table in parts is the table
+same : (c : tie.After-task-sheet) →
+    tableOf (c .before .before .before .before .front-of .result) (c .before .server-sheet .result .ranks)
+    (c .before .server-sheet .result .times) (c .task-sheet .result .tags) (c .task-sheet .result .limits)
+    ≡ entry (headed c) .args .r .table
+same c =
+    table-back (entry (headed c) .args .r .table) (c .before .before .before .before .front-of .result)
+    (c .before .server-sheet .result .ranks) (c .before .server-sheet .result .times) (c .task-sheet .result .tags)
+    (c .task-sheet .result .limits)
+    (c .before .before .before .before .front-of .ensures) (c .before .server-sheet .ensures) (c .task-sheet .ensures)
+
 tick-in-requires : tie.Need-tick-in-requires
 tick-in-requires c κs =
-    let h =
-    shaped
-    (c .before .before .before .before .before .before .before .before .before .before .before .before .before) in
-    record {
-      sound =
-          rw (c .before .before .before .before .before .before .before .before .head-of .ensures)
-          (is-sound (c .before .before .before .before .before .before .before .before .before));
-      used-long = h .used;
-      elapsed-long = h .elapsed;
-      waiting-long = h .waiting;
-      runs-long = h .runs;
-    }
+    let d = sheets c in
+    let h = headed d in
+    let r = entry h .args .r in
+    ready-parts (r .table) (r .state) _ (h .head-of .ensures) _ (same d) (is-sound (h .before)) (shaped (entry h))
 
 join-requires : tie.Need-join-requires
 join-requires c κs = search needs
 
 returns-2 : tie.Need-returns-2
 returns-2 c =
+    let d = sheets (c .before .before) in
+    let h = headed d in
+    let a = entry h .args in
     c .join .ensures
-    ∙ c .before .tick-in .ensures
-    ∙ rw (c .before .before .before .before .before .before .before .before .before .before .head-of .ensures)
+    ∙ tick-parts (a .r .table) (a .r .state) _ (h .head-of .ensures) _ (same d) (a .mark) _ _ _ _ _
+    (c .before .tick-in .ensures)
 
 pub tick-spec : {M : Type 1} → statement M
 tick-spec =
     tie.close
-    (tie.spec run-sound-requires returns head-of-requires tick-in-requires join-requires returns-2)
+    (tie.spec
+    run-sound-requires
+    returns
+    head-of-requires
+    front-of-requires
+    server-sheet-requires
+    task-sheet-requires
+    tick-in-requires
+    join-requires
+    returns-2)

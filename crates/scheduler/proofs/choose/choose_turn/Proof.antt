@@ -1,88 +1,99 @@
 -- `scheduler::choose::choose_turn` meets its contract: the first walk keeps each server's highest task with a waiting
 -- job among the tasks passed, the second the highest able server among the servers passed. Assumes nothing.
-use mathlib.Core.Path.{_≡_, refl, sym, ap, _∙_}
+use mathlib.Core.Path.{_≡_, refl, sym, ap, subst, _∙_}
+use mathlib.Core.Bool.{_&&_, _||_}
 use mathlib.Core.Logic.{⊎-elim}
 use Prim.Native.Nat.{_≤_, _<_, _-_}
 use native.Mathlib.Omega.{arith}
-use lib.ListN.{length, getD, length-map, length-set}
-use Rattle.table.specs.Rows.{priorityAt, taskPriorityAt}
-use Rattle.table.proofs.Rules.{TableRules, table-rules}
+use lib.Dec.{ltb}
+use lib.ListN.{length, getD, set, length-set}
+use Rattle.table.specs.declared.Table.{Table}
+use Rattle.table.specs.Rows.{priorityAt, capacityAt, taskPriorityAt, inMode, isTimed}
+use Rattle.table.proofs.Rules.{TableRules}
 use Rattle.run.specs.declared.State.{State}
+use Rattle.run.specs.State.{owner, waits}
 use Rattle.run.specs.Tick.{able}
+use Rattle.scheduler.specs.declared.parts.Front.{Front}
+use Rattle.scheduler.specs.Sheets.{tableOf}
 use Rattle.scheduler.specs.Choose.{facing}
-use Rattle.scheduler.proofs.Tops.{Top, Tops, top-none, tops-none, tops-take, tops-leave, able-take, able-leave, waits-found, says-idle, says-turn, top-row, owner-row}
+use Rattle.scheduler.proofs.Tops.{Top, Tops, top-none, top-keep, tops-none, tops-take, tops-leave, able-take, able-skip, waits-found, says-idle, says-turn, top-row, owner-row}
+use Rattle.scheduler.proofs.Sheets.{rules-in}
 use Rattle.scheduler.proofs.choose.choose_turn.Statement.{statement}
 use Rattle.scheduler.proofs.choose.choose_turn.Tie as tie
 
 abbrev Inv-loop : tie.InvT-loop
-Inv-loop m used waiting t top₀ height₀ k₀ k-end top height k =
-    (k ≤ k-end) × (length top ≡ 32) × (length height ≡ 32) × Tops t (facing m used waiting) k height top
+Inv-loop f ranks times tags limits m used waiting top₀ height₀ k₀ k-end top height k =
+    (k ≤ k-end) × (length top ≡ 32) × (length height ≡ 32)
+    × Tops (tableOf f ranks times tags limits) (facing m used waiting) k height top
 
 abbrev μ-loop : tie.MeasureT-loop
-μ-loop m used waiting t top₀ height₀ k₀ k-end top height k = k-end - k
+μ-loop f ranks times tags limits m used waiting top₀ height₀ k₀ k-end top height k = k-end - k
 
+-- the front of the table is read no more in the second walk: what the first one found of it is all that is asked
 abbrev Inv-loop2 : tie.InvT-loop2
-Inv-loop2 m used waiting t top height best₀ high₀ i₀ i-end best high i =
-    (i ≤ i-end) × Top i (able t (facing m used waiting)) (priorityAt t) high best
+Inv-loop2 ranks times tags limits m used waiting top height best₀ high₀ i₀ i-end best high i =
+    (i ≤ i-end)
+    × ((f : Front) → Tops (tableOf f ranks times tags limits) (facing m used waiting) (f .ntasks) height top →
+    Top i (able (tableOf f ranks times tags limits) (facing m used waiting)) (priorityAt (tableOf f ranks times tags limits))
+    high best)
 
 abbrev μ-loop2 : tie.MeasureT-loop2
-μ-loop2 m used waiting t top height best₀ high₀ i₀ i-end best high i = i-end - i
+μ-loop2 ranks times tags limits m used waiting top height best₀ high₀ i₀ i-end best high i = i-end - i
 
-rules : (c : tie.Start Inv-loop μ-loop Inv-loop2 μ-loop2) → TableRules (c .args .t1)
+abbrev with-front : (c : tie.Start Inv-loop μ-loop Inv-loop2 μ-loop2) → Front → Table
+with-front c f = tableOf f (c .args .ranks .now) (c .args .times .now) (c .args .tags .now) (c .args .limits .now)
+
+abbrev tab : (c : tie.Start Inv-loop μ-loop Inv-loop2 μ-loop2) → Table
+tab c = with-front c (c .args .f)
+
+rules : (c : tie.Start Inv-loop μ-loop Inv-loop2 μ-loop2) → TableRules (tab c)
 rules c =
-    table-rules (c .args .t1)
-    (record {
-      servers = sym (length-map (c .args .t1 .servers) _) ∙ c .good .0 .1 .1 .1 .1 .1 .0 .1 .0 .1;
-      tasks = sym (length-map (c .args .t1 .tasks) _) ∙ c .good .0 .1 .1 .1 .1 .1 .1 .0 .1 .0 .1;
-    })
-    (c .pre)
+    rules-in (c .args .f) (c .args .ranks .now) (c .args .times .now) (c .args .tags .now) (c .args .limits .now) (c .pre)
 
 abbrev seen : (c : tie.Start Inv-loop μ-loop Inv-loop2 μ-loop2) → State
 seen c = facing (c .args .m) (c .args .used .now) (c .args .waiting .now)
 
 owner-low : (c : tie.After-owner-of Inv-loop μ-loop Inv-loop2 μ-loop2) → c .owner-of .result < 32
 owner-low c =
-    let a = c .before .before .before .before .args in
-    let r = rules (c .before .before .before .before) in
+    let s = c .before .before .before .before in
+    let r = rules s in
     omega (
       arith,
-      c .owner-of .ensures,
-      owner-row (a .t1) r (a .m) (c .before .before .before .loop .k) (c .before .before .loop-test .taken),
+      c .owner-of .ensures ∙ ap (owner (s .args .m)) (c .before .task-at .ensures),
+      owner-row (tab s) r (s .args .m) (c .before .before .before .loop .k) (c .before .before .loop-test .taken),
       r .servers-high,
     )
 
 -- what the first walk found, and what the second
 found : (c : tie.After-loop Inv-loop μ-loop Inv-loop2 μ-loop2) →
-    Tops (c .before .before .args .t1) (seen (c .before .before)) (c .before .before .args .t1 .ntasks)
+    Tops (tab (c .before .before)) (seen (c .before .before)) (c .before .before .args .f .ntasks)
     (c .before .loop .height) (c .before .loop .top)
 found c =
-    let e : c .before .loop .k ≡ c .before .before .args .t1 .ntasks = omega arith in
+    let e : c .before .loop .k ≡ c .before .before .args .f .ntasks = omega arith in
     rw e at (c .before .loop .inv .3)
 
 best : (c : tie.After-loop2 Inv-loop μ-loop Inv-loop2 μ-loop2) →
-    Top (c .before .before .before .before .args .t1 .nservers)
-    (able (c .before .before .before .before .args .t1) (seen (c .before .before .before .before)))
-    (priorityAt (c .before .before .before .before .args .t1)) (c .before .loop2 .high) (c .before .loop2 .best)
+    Top (c .before .before .before .before .args .f .nservers)
+    (able (tab (c .before .before .before .before)) (seen (c .before .before .before .before)))
+    (priorityAt (tab (c .before .before .before .before))) (c .before .loop2 .high) (c .before .loop2 .best)
 best c =
-    let e : c .before .loop2 .i ≡ c .before .before .before .before .args .t1 .nservers = omega arith in
-    rw e at (c .before .loop2 .inv .1)
+    let s = c .before .before .before .before in
+    let e : c .before .loop2 .i ≡ s .args .f .nservers = omega arith in
+    rw e at (c .before .loop2 .inv .1 (s .args .f) (found (c .before .before)))
 
-best-low : (c : tie.Else3 Inv-loop μ-loop Inv-loop2 μ-loop2) → c .before .before .loop2 .best < 32
+best-low : (c : tie.Else4 Inv-loop μ-loop Inv-loop2 μ-loop2) → c .before .before .loop2 .best < 32
 best-low c =
+    let s = c .before .before .before .before .before in
     let q =
-    top-row (c .before .before .before .before .before .args .t1)
-    (seen (c .before .before .before .before .before)) (c .before .before .loop2 .high)
-    (c .before .before .loop2 .best) (best (c .before)) (c .if3 .left) in
-    omega (arith, rules (c .before .before .before .before .before) .servers-high)
+    top-row (tab s) (seen s) (c .before .before .loop2 .high) (c .before .before .loop2 .best) (best (c .before))
+    (c .if4 .left) in
+    omega (arith, rules s .servers-high)
 
 loop-holds : tie.Need-loop-holds Inv-loop μ-loop Inv-loop2 μ-loop2
-loop-holds c = (omega arith, refl, refl, tops-none (c .args .t1) (seen c))
+loop-holds c = (omega arith, refl, refl, tops-none (tab c) (seen c))
 
-mul-row : tie.Need-mul-row Inv-loop μ-loop Inv-loop2 μ-loop2
-mul-row c = omega (arith, rules (c .before .before) .tasks-high)
-
-element-copy-out-row : tie.Need-element-copy-out-row Inv-loop μ-loop Inv-loop2 μ-loop2
-element-copy-out-row c = omega (arith, rules (c .before .before) .tasks-high)
+task-at-requires : tie.Need-task-at-requires Inv-loop μ-loop Inv-loop2 μ-loop2
+task-at-requires c κs = omega (arith, rules (c .before .before) .tasks-high)
 
 owner-of-requires : tie.Need-owner-of-requires Inv-loop μ-loop Inv-loop2 μ-loop2
 owner-of-requires c κs = tt
@@ -113,27 +124,33 @@ loop-less c = omega (arith, rules (c .before .before .before .before .before .be
 
 loop-again : tie.Need-loop-again Inv-loop μ-loop Inv-loop2 μ-loop2
 loop-again c =
-    let t = c .before .before .before .before .before .before .before .args .t1 in
-    let s = seen (c .before .before .before .before .before .before .before) in
-    let l = c .before .before .before .before .before .before .loop in
-    let o = c .before .before .before .owner-of in
-    let e = c .before .is-higher .ensures in
-    let row = rules (c .before .before .before .before .before .before .before) .task (l .k) (c .before .before .before .before .before .loop-test .taken) in
+    let d = c .before .before .before in
+    let l = d .before .before .before .loop in
+    let s = d .before .before .before .before in
+    let t = tab s in
+    let o = d .owner-of in
+    let row = d .before .task-at .ensures in
+    let own = o .ensures ∙ ap (owner (s .args .m)) row in
+    let e =
+    c .before .is-higher .ensures
+    ∙ ap (λ k. ltb 0 (getD (s .args .waiting .now) (l .k) 0) && ltb (getD (l .height) (o .result) 0) (k .priority)) row in
+    let high = ap (λ k. set (l .height) (o .result) (k .priority)) row in
     ⊎-elim
     (λ w. (
       omega arith,
       ap length (w .1) ∙ length-set (l .top) (o .result) (l .k) ∙ l .inv .1,
-      ap length (w .2) ∙ length-set (l .height) (o .result) (taskPriorityAt t (l .k)) ∙ l .inv .2,
-      λ i h. rw (w .1, w .2)
-          (tops-take t s (l .k) (o .result) (l .height) (l .top) (l .inv .2) (l .inv .1) (o .ensures)
-          (owner-low (c .before .before .before)) (sym e ∙ w .0 .taken) (l .inv .3) i h),
+      ap length (w .2 ∙ high) ∙ length-set (l .height) (o .result) (taskPriorityAt t (l .k)) ∙ l .inv .2,
+      λ i h. rw (w .1, w .2 ∙ high)
+          (tops-take t (seen s) (l .k) (o .result) (l .height) (l .top) (l .inv .2) (l .inv .1) own (owner-low d)
+          (sym e ∙ w .0 .taken) (l .inv .3) i h),
     ))
     (λ w. (
       omega arith,
       ap length (w .1) ∙ l .inv .1,
       ap length (w .2) ∙ l .inv .2,
       λ i h. rw (w .1, w .2)
-          (tops-leave t s (l .k) (o .result) (l .height) (l .top) (o .ensures) (row .priority-low)
+          (tops-leave t (seen s) (l .k) (o .result) (l .height) (l .top) own
+          (rules s .task (l .k) (d .before .before .loop-test .taken) .priority-low)
           (sym e ∙ w .0 .left) (l .inv .3) i h),
     ))
     (c .if1 .came)
@@ -141,70 +158,73 @@ loop-again c =
 loop2-holds : tie.Need-loop2-holds Inv-loop μ-loop Inv-loop2 μ-loop2
 loop2-holds c = (
   omega arith,
-  top-none (able (c .before .before .args .t1) (seen (c .before .before)))
-      (priorityAt (c .before .before .args .t1)) 0,
+  λ f w. top-none _ _ 0,
 )
 
-mul-s : tie.Need-mul-s Inv-loop μ-loop Inv-loop2 μ-loop2
-mul-s c = omega (arith, rules (c .before .before .before .before) .servers-high)
-
-element-copy-out-s : tie.Need-element-copy-out-s Inv-loop μ-loop Inv-loop2 μ-loop2
-element-copy-out-s c = omega (arith, rules (c .before .before .before .before) .servers-high)
+server-at-requires : tie.Need-server-at-requires Inv-loop μ-loop Inv-loop2 μ-loop2
+server-at-requires c κs = omega (arith, rules (c .before .before .before .before) .servers-high)
 
 mul-is-able : tie.Need-mul-is-able Inv-loop μ-loop Inv-loop2 μ-loop2
-mul-is-able c = omega (arith, rules (c .before .before .before .before .before) .servers-high)
+mul-is-able c = omega (arith, rules (c .before .before .before .before .before .before .before) .servers-high)
 
 element-copy-out-is-able : tie.Need-element-copy-out-is-able Inv-loop μ-loop Inv-loop2 μ-loop2
-element-copy-out-is-able c = omega (arith, rules (c .before .before .before .before .before) .servers-high)
+element-copy-out-is-able c = omega (arith, rules (c .before .before .before .before .before .before .before) .servers-high)
 
 array-read-is-able : tie.Need-array-read-is-able Inv-loop μ-loop Inv-loop2 μ-loop2
-array-read-is-able c = omega (arith, rules (c .before .before .before .before .before .before) .servers-high)
+array-read-is-able c = omega (arith, rules (c .before .before .before .before .before .before .before .before) .servers-high)
 
 is-able-requires : tie.Need-is-able-requires Inv-loop μ-loop Inv-loop2 μ-loop2
 is-able-requires c κs = tt
 
 add-i : tie.Need-add-i Inv-loop μ-loop Inv-loop2 μ-loop2
-add-i c = omega (arith, rules (c .before .before .before .before .before .before .before .before) .servers-high)
+add-i c = omega (arith, rules (c .before .before .before .before .before .before .before) .servers-high)
 
 loop2-less : tie.Need-loop2-less Inv-loop μ-loop Inv-loop2 μ-loop2
-loop2-less c = omega (arith, rules (c .before .before .before .before .before .before .before .before) .servers-high)
+loop2-less c = omega (arith, rules (c .before .before .before .before .before .before .before) .servers-high)
 
 loop2-again : tie.Need-loop2-again Inv-loop μ-loop Inv-loop2 μ-loop2
 loop2-again c =
-    let t = c .before .before .before .before .before .before .before .before .args .t1 in
-    let s = seen (c .before .before .before .before .before .before .before .before) in
-    let l = c .before .before .before .before .before .loop2 in
-    let h = c .before .before .before .before .before .before .before .loop .height in
-    let e = c .before .is-able .ensures in
-    let row = rules (c .before .before .before .before .before .before .before .before) .server (l .i) (c .before .before .before .before .loop2-test .taken) in
-    let low : l .i < 32 =
-    omega (
-      arith,
-      c .before .before .before .before .loop2-test .taken,
-      rules (c .before .before .before .before .before .before .before .before) .servers-high,
-    ) in
-    let w =
-    waits-found t s (l .i) (getD h (l .i) 0)
-    (getD (c .before .before .before .before .before .before .before .loop .top) (l .i) 0)
-    (found (c .before .before .before .before .before .before) (l .i) low) in
+    let d = c .before .before in
+    let l = d .before .before .loop2 in
+    let s = d .before .before .before .before .before in
+    let h = d .before .before .before .before .loop in
+    let row = d .server-at .ensures in
+    let low : l .i < 32 = omega (arith, d .before .loop2-test .taken, rules s .servers-high) in
+    let waiting : (f : Front) → Tops (with-front s f) (seen s) (f .ntasks) (h .height) (h .top) →
+    ltb 0 (getD (h .height) (l .i) 0) ≡ waits (with-front s f) (seen s) (l .i) =
+    λ f w. waits-found (with-front s f) (seen s) (l .i) (getD (h .height) (l .i) 0) (getD (h .top) (l .i) 0) (w (l .i) low) in
+    let tried =
+    ap
+    (λ x. ltb (getD (s .args .used .now) (l .i) 0) (inMode (x .capacity) (s .args .m))
+    && (isTimed (x .kind) || ltb 0 (getD (h .height) (l .i) 0)))
+    row in
     ⊎-elim
     (λ v. (
       omega arith,
-      rw (v .1, v .2)
-          (able-take t s (l .i) (getD h (l .i) 0) (l .high) (l .best) (l .inv .1) w (sym e ∙ v .0 .taken)),
+      λ f w. rw (v .4, v .5 ∙ ap (λ x. x .priority) row)
+          (able-take (with-front s f) (seen s) (l .i) (getD (h .height) (l .i) 0) (l .high) (l .best) (l .inv .1 f w) (waiting f w)
+          (subst (λ x. l .high < x .priority) row (v .0 .taken)) (sym (v .2 .ensures ∙ tried) ∙ v .3 .taken)),
+    ))
+    (⊎-elim
+    (λ v. (
+      omega arith,
+      λ f w. rw (v .4, v .5)
+          (able-skip (with-front s f) (seen s) (l .i) (getD (h .height) (l .i) 0) (l .high) (l .best) (l .inv .1 f w) (waiting f w)
+          (sym (v .2 .ensures ∙ tried) ∙ v .3 .left)),
     ))
     (λ v. (
       omega arith,
-      rw (v .1, v .2)
-          (able-leave t s (l .i) (getD h (l .i) 0) (l .high) (l .best) (l .inv .1) w (row .priority-low)
-          (sym e ∙ v .0 .left)),
-    ))
+      λ f w. rw (v .1, v .2)
+          (top-keep (able (with-front s f) (seen s)) (priorityAt (with-front s f)) (l .i) (l .high) (l .best) (l .inv .1 f w)
+          (subst (λ x. x .priority ≤ l .high) row (v .0 .left)) (rules s .server (l .i) (d .before .loop2-test .taken) .priority-low)),
+    )))
     (c .if2 .came)
 
 returns : tie.Need-returns Inv-loop μ-loop Inv-loop2 μ-loop2
 returns c =
-    says-idle (c .before .before .before .before .before .args .t1) (seen (c .before .before .before .before .before))
-    (c .before .before .loop2 .high) (c .before .before .loop2 .best) (best (c .before)) (c .if3 .taken)
+    let s = c .before .before .before .before .before in
+    says-idle (tab s) (seen s) (c .before .before .loop2 .high) (c .before .before .loop2 .best) (best (c .before))
+    (c .if4 .taken)
 
 array-read-turn-of : tie.Need-array-read-turn-of Inv-loop μ-loop Inv-loop2 μ-loop2
 array-read-turn-of c = best-low c
@@ -219,11 +239,10 @@ returns-2 : tie.Need-returns-2 Inv-loop μ-loop Inv-loop2 μ-loop2
 returns-2 c =
     let b = c .before .before .before .loop2 in
     let l = c .before .before .before .before .before .loop in
+    let s = c .before .before .before .before .before .before in
     c .turn-of .ensures
-    ∙ says-turn (c .before .before .before .before .before .before .args .t1)
-    (seen (c .before .before .before .before .before .before)) (b .high) (b .best) (getD (l .height) (b .best) 0)
-    (getD (l .top) (b .best) 0)
-    (best (c .before .before)) (c .before .if3 .left)
+    ∙ says-turn (tab s) (seen s) (b .high) (b .best) (getD (l .height) (b .best) 0) (getD (l .top) (b .best) 0)
+    (best (c .before .before)) (c .before .if4 .left)
     (found (c .before .before .before .before) (b .best) (best-low (c .before)))
 
 pub choose-turn-spec : {M : Type 1} → statement M
@@ -235,8 +254,7 @@ choose-turn-spec =
     Inv-loop2
     μ-loop2
     loop-holds
-    mul-row
-    element-copy-out-row
+    task-at-requires
     owner-of-requires
     element-copy-out-is-higher
     array-read-is-higher
@@ -248,8 +266,7 @@ choose-turn-spec =
     loop-less
     loop-again
     loop2-holds
-    mul-s
-    element-copy-out-s
+    server-at-requires
     mul-is-able
     element-copy-out-is-able
     array-read-is-able

@@ -5,12 +5,12 @@ use mathlib.Core.Bool.{true, not, _||_}
 use mathlib.Core.Logic.{⊎-elim}
 use Prim.Native.Nat.{_<_}
 use native.Mathlib.Omega.{arith}
-use lib.ListN.{length-map}
 use borrow.Author.Tests.{not-true, not-false}
 use borrow.Author.Needs.{needs}
 use Rattle.laws.specs.Rows.{sumBelow}
+use Rattle.table.specs.declared.Table.{Table}
 use Rattle.table.specs.Rows.{taskAt}
-use Rattle.table.proofs.Rules.{TableRules, table-rules}
+use Rattle.table.proofs.Rules.{TableRules}
 use Rattle.run.specs.declared.Left.{Left}
 use Rattle.run.specs.declared.Run.{Run}
 use Rattle.run.specs.declared.State.{State}
@@ -19,6 +19,8 @@ use Rattle.run.specs.State.{waits}
 use Rattle.run.proofs.Shape.{Shaped}
 use Rattle.run.proofs.Sound.{StateSound, sound-table, sound-state}
 use Rattle.scheduler.specs.Parts.{stateOf, runOf, atMode}
+use Rattle.scheduler.specs.Sheets.{tableOf}
+use Rattle.scheduler.proofs.Sheets.{rules-in}
 use Rattle.scheduler.proofs.Keeping.{ready-shaped}
 use Rattle.scheduler.proofs.Settling.{step2-entered, step2-not, discards-entered, discards-not, step3-is, step4-is, SettledTo, settled-to}
 use Rattle.scheduler.proofs.Ticking.{advance-is, room, low, ran-job, row-low, tick-no-job, tick-spent, tick-taken}
@@ -53,22 +55,20 @@ before₅ c = c .before .before .before
 abbrev entry₅ : tie.After-choose-turn → tie.Start
 entry₅ c = entry₄ (before₅ c)
 
+abbrev tab : (c : tie.Start) → Table
+tab c = tableOf (c .args .f) (c .args .ranks .now) (c .args .times .now) (c .args .tags .now) (c .args .limits .now)
+
 abbrev whole : (c : tie.Start) → Run
 whole c =
-    runOf (c .args .t1) (c .args .h) (c .args .used .now) (c .args .elapsed .now) (c .args .waiting .now)
+    runOf (tab c) (c .args .h) (c .args .used .now) (c .args .elapsed .now) (c .args .waiting .now)
     (c .args .runs .now)
 
-rules : (c : tie.Start) → TableRules (c .args .t1)
+rules : (c : tie.Start) → TableRules (tab c)
 rules c =
-    table-rules
-    (c .args .t1)
-    (record {
-      servers = sym (length-map (c .args .t1 .servers) _) ∙ c .good .0 .1 .1 .1 .1 .1 .0 .1 .0 .1;
-      tasks = sym (length-map (c .args .t1 .tasks) _) ∙ c .good .0 .1 .1 .1 .1 .1 .1 .0 .1 .0 .1;
-    })
+    rules-in (c .args .f) (c .args .ranks .now) (c .args .times .now) (c .args .tags .now) (c .args .limits .now)
     (sound-table (whole c) (c .pre .sound))
 
-facts : (c : tie.Start) → StateSound (c .args .t1) (whole c .state)
+facts : (c : tie.Start) → StateSound (tab c) (whole c .state)
 facts c = sound-state (whole c) (c .pre .sound)
 
 shaped : (c : tie.Start) → Shaped (whole c .state)
@@ -82,12 +82,14 @@ one c =
     stateOf (atMode (a .h) (m .result .mode)) (a .used .now) (a .elapsed .now) (m .last .1 .1 .0) (m .last .1 .1 .1 .0)
 
 marked : (c : tie.After-mark-job) →
-    step1 (entry₁ c .args .t1) (whole (entry₁ c) .state) (entry₁ c .args .mark) (entry₁ c .args .h .last)
+    step1 (tab (entry₁ c)) (whole (entry₁ c) .state) (entry₁ c .args .mark) (entry₁ c .args .h .last)
     ≡ record { state = one c; left = c .mark-job .result .left }
 marked c =
     let a = entry₁ c .args in
-    c .mark-job .ensures (a .t1) (a .used .now) (a .elapsed .now)
-    (ap (taskAt (a .t1)) (sym (c .before .before .before .before .last-row .ensures)))
+    let r = c .before .before .before in
+    let t = tab (entry₁ c) in
+    c .mark-job .ensures t (a .used .now) (a .elapsed .now)
+    (ap (taskAt t) (sym (r .before .last-row .ensures)) ∙ sym (r .task-at .ensures))
 
 -- after step 2, whether D2 was entered or not
 abbrev two : tie.Joined3 → State
@@ -97,11 +99,11 @@ two c =
     (c .if3 .runs)
 
 discarded : (c : tie.Joined3) →
-    (step2 (entry₂ c .args .t1) (entry₂ c .args .h .mode) (one (before₂ c)) ≡ two c)
+    (step2 (tab (entry₂ c)) (entry₂ c .args .h .mode) (one (before₂ c)) ≡ two c)
     × (c .if3 .discarded
-    ≡ sumBelow (entry₂ c .args .t1 .ntasks) (discards (entry₂ c .args .t1) (entry₂ c .args .h .mode) (one (before₂ c))))
+    ≡ sumBelow (entry₂ c .args .f .ntasks) (discards (tab (entry₂ c)) (entry₂ c .args .h .mode) (one (before₂ c))))
 discarded c =
-    let t = entry₂ c .args .t1 in
+    let t = tab (entry₂ c) in
     let m = entry₂ c .args .h .mode in
     let s = one (before₂ c) in
     let e = c .before .enters-d2 .ensures in
@@ -130,8 +132,8 @@ four c =
     let q = before₃ (before₄ c) .if3 in
     stateOf
     (atMode (entry₄ c .args .h) (before₄ c .settled-mode .result))
-    (c .refill .last .1 .0)
-    (c .refill .last .1 .1 .0)
+    (c .refill .last .1 .1 .1 .0)
+    (c .refill .last .1 .1 .1 .1 .0)
     (q .waiting)
     (q .runs)
 
@@ -139,10 +141,10 @@ abbrev left : tie.After-refill → Left
 left c = before₂ (before₃ (before₄ c)) .mark-job .result .left
 
 settled : (c : tie.After-refill) →
-    SettledTo (entry₄ c .args .t1) (whole (entry₄ c) .state) (entry₄ c .args .mark) (four c) (left c)
+    SettledTo (tab (entry₄ c)) (whole (entry₄ c) .state) (entry₄ c .args .mark) (four c) (left c)
     (before₃ (before₄ c) .if3 .discarded)
 settled c =
-    let t = entry₄ c .args .t1 in
+    let t = tab (entry₄ c) in
     let c₃ = before₄ c in
     let c₂ = before₃ c₃ in
     let c₁ = before₂ c₂ in
@@ -160,11 +162,11 @@ settled c =
     (discarded c₂ .0)
     (discarded c₂ .1)
     (step3-is t (two c₂) (c₃ .settled-mode .result) (c₃ .settled-mode .ensures))
-    (step4-is t (three c₃) (c .refill .last .1 .0) (c .refill .last .1 .1 .0) (c .refill .ensures .0)
+    (step4-is t (three c₃) (c .refill .last .1 .1 .1 .0) (c .refill .last .1 .1 .1 .1 .0) (c .refill .ensures .0)
     (c .refill .ensures .1))
 
 -- the turn is that of the settled state
-chosen : (c : tie.After-choose-turn) → c .choose-turn .result ≡ choose (entry₅ c .args .t1) (four (before₅ c))
+chosen : (c : tie.After-choose-turn) → c .choose-turn .result ≡ choose (tab (entry₅ c)) (four (before₅ c))
 unfolding choose highestAble highestTask able waits
 chosen c = c .choose-turn .ensures
 
@@ -172,7 +174,7 @@ row-there : (c : tie.After-last-row) → c .last-row .result < 64
 row-there c =
     let s = c .before .before .before .before in
     rw (c .last-row .ensures)
-    (row-low (s .args .t1) (whole s .state) (s .args .mark) (rules s) (shaped s) (facts s) (s .args .h .last)
+    (row-low (tab s) (whole s .state) (s .args .mark) (rules s) (shaped s) (facts s) (s .args .h .last)
     (facts s .last))
 
 -- the mark may come, and the count is not spent
@@ -196,16 +198,13 @@ returns-2 c =
 last-row-requires : tie.Need-last-row-requires
 last-row-requires c κs = search needs
 
-mul-row : tie.Need-mul-row
-mul-row c = let h = row-there c in omega arith
-
-element-copy-out-row : tie.Need-element-copy-out-row
-element-copy-out-row c = row-there c
+task-at-requires : tie.Need-task-at-requires
+task-at-requires c κs = row-there c
 
 mark-job-requires : tie.Need-mark-job-requires
 mark-job-requires c κs =
     let s = c .before .before .before .before .before .before .before in
-    ran-job (s .args .t1) (whole s .state) (s .args .mark) (rules s) (shaped s) (facts s) (s .args .h .last)
+    ran-job (tab s) (whole s .state) (s .args .mark) (rules s) (shaped s) (facts s) (s .args .h .last)
     (facts s .last)
 
 enters-d2-requires : tie.Need-enters-d2-requires
@@ -231,7 +230,7 @@ charge-requires c κs =
     let s = entry₅ c₅ in
     let q = settled (before₅ c₅) .state in
     rw q at
-    (room (s .args .t1) (whole s .state) (s .args .mark) (rules s) (shaped s) (facts s) (c₅ .choose-turn .result)
+    (room (tab s) (whole s .state) (s .args .mark) (rules s) (shaped s) (facts s) (c₅ .choose-turn .result)
     (chosen c₅ ∙ rw q))
 
 age-requires : tie.Need-age-requires
@@ -239,14 +238,20 @@ age-requires c κs =
     let c₄ = before₅ (c .before .before .before .before) in
     let s = entry₄ c₄ in (
       rules s .servers-high,
-      rw (settled c₄ .state) at (low (s .args .t1) (whole s .state) (s .args .mark) (rules s) (shaped s) (facts s)),
+      rw (settled c₄ .state) at (low (tab s) (whole s .state) (s .args .mark) (rules s) (shaped s) (facts s)),
     )
 
 last-of-requires : tie.Need-last-of-requires
 last-of-requires c κs = search needs
 
+-- the place where the count was found not to be spent
+abbrev taking : tie.After-last-of → tie.Else2
+taking c =
+    before₂ (before₃ (before₄ (before₅ (c .before .before .before .before .before .before)))) .before .before .before .before
+    .before
+
 add-next : tie.Need-add-next
-add-next c = search needs
+add-next c = omega (arith, taking c .if2 .left)
 
 returns-3 : tie.Need-returns-3
 returns-3 c =
@@ -258,7 +263,7 @@ returns-3 c =
     let e = c .before .age in
     rw
     (advance-is
-    (s .args .t1)
+    (tab s)
     (four c₄)
     turn
     (c .last-of .result)
@@ -274,11 +279,8 @@ returns-3 c =
     (whole s)
     (s .args .mark)
     (s .pre .sound)
-    (may-come
-    (c .before .before .before .before .before .before .before .before .before .before .before .before .before .before
-    .before .before .before .before .before .before .before .before))
-    (c .before .before .before .before .before .before .before .before .before .before .before .before .before .before
-    .before .before .before .before .before .before .before .if2 .left)
+    (may-come (taking c .before))
+    (taking c .if2 .left)
     (four c₄)
     (left c₄)
     (before₃ (before₄ c₄) .if3 .discarded)
@@ -294,8 +296,7 @@ tick-in-spec =
     returns
     returns-2
     last-row-requires
-    mul-row
-    element-copy-out-row
+    task-at-requires
     mark-job-requires
     enters-d2-requires
     discard-requires

@@ -1,21 +1,26 @@
 -- `scheduler::serve::close_line` meets its contract: what the line says decides which event is taken, and its answer is
 -- put. Assumes nothing.
-use mathlib.Core.Path.{_≡_, sym, ap, _∙_}
+use mathlib.Core.Path.{_≡_, refl, sym, ap, _∙_}
 use borrow.Author.Needs.{needs}
+use Rattle.table.specs.declared.Table.{Table}
 use Rattle.run.specs.declared.Run.{Run}
 use Rattle.run.specs.declared.Event.the-variants.{Release, Tick}
 use Rattle.lines.specs.declared.EventLine.the-variants.{Of}
 use Rattle.run.proofs.Sound.{sound-table}
 use Rattle.scheduler.specs.Parts.{runOf}
+use Rattle.scheduler.specs.Sheets.{tableOf}
 use Rattle.soundness.proofs.Checks.{tasks-fit}
 use Rattle.scheduler.proofs.Serving.{closes-event, closes-another}
 use Rattle.scheduler.proofs.serve.close_line.Statement.{statement}
 use Rattle.scheduler.proofs.serve.close_line.Tie as tie
 
+abbrev tab : (c : tie.Start) → Table
+tab c = tableOf (c .args .f) (c .args .ranks .now) (c .args .times .now) (c .args .tags .now) (c .args .limits .now)
+
 abbrev whole : (c : tie.Start) → Run
 whole c =
     let a = c .args in
-    runOf (a .t) (a .h) (a .used .now) (a .elapsed .now) (a .waiting .now) (a .runs .now)
+    runOf (tab c) (a .h) (a .used .now) (a .elapsed .now) (a .waiting .now) (a .runs .now)
 
 read-held-requires : tie.Need-read-held-requires
 read-held-requires c κs = search needs
@@ -29,7 +34,7 @@ enum-known-e c = search needs
 release-in-requires : tie.Need-release-in-requires
 release-in-requires c κs =
     let s = c .before .before .before .before .before .before .before .before .before in
-    tasks-fit (s .args .t) (sound-table (whole s) (s .pre .sound))
+    tasks-fit (tab s) (sound-table (whole s) (s .pre .sound))
 
 put-answer-requires : tie.Need-put-answer-requires
 put-answer-requires c κs = search needs
@@ -62,7 +67,7 @@ returns c =
     let s = h .before .before in
     let n = e .e .given in
     closes-event _ _ _ _ (Release (n .0 .0)) _ _ _ (sym (l .line .given .1 ∙ ap Of (n .1)) ∙ h .read-held .ensures)
-    (d .release-in .ensures (s .args .used .now) (s .args .elapsed .now) (s .args .runs .now) (s .pre .sound))
+    (d .release-in .ensures (tab s) (s .args .used .now) (s .args .elapsed .now) (s .args .runs .now) refl refl (s .pre .sound))
     (p .put-answer .ensures)
 
 same-length-2 : tie.Need-same-length-2

@@ -5,46 +5,47 @@ use Prim.Native.Nat.{ℕ, _+_, _-_, _≤_, _<_}
 use native.Mathlib.Omega.{arith}
 use lib.ListN.{length, getD, length-map}
 use borrow.Author.Needs.{needs}
-use Rattle.table.specs.Parts.{Sized}
+use Rattle.table.specs.declared.Table.{Table}
+use Rattle.lines.specs.Held.{held}
 use Rattle.scheduler.specs.Parts.{runOf}
+use Rattle.scheduler.specs.Sheets.{tableOf}
+use Rattle.scheduler.proofs.Sheets.{sized}
 use Rattle.scheduler.proofs.Serving.{Going, room-long, held-none, going-start, going-held, going-closed}
 use Rattle.scheduler.proofs.Serving.{going-full, going-done, ready-fine, going-ready}
 use Rattle.scheduler.proofs.serve.take_bytes.Statement.{statement}
 use Rattle.scheduler.proofs.serve.take_bytes.Tie as tie
 
 abbrev Inv-loop : tie.InvT-loop
-Inv-loop t used₀ elapsed₀ waiting₀ runs₀ input room₀ head₀ held₀ at₀ i₀ used elapsed waiting runs room head held at i =
+Inv-loop f ranks times tags limits used₀ elapsed₀ waiting₀ runs₀ input room₀ head₀ bytes₀ len₀ at₀ i₀ used elapsed waiting runs room head bytes len at i =
     Going
-    (runOf t head₀ used₀ elapsed₀ waiting₀ runs₀)
-    held₀
+    (runOf (tableOf f ranks times tags limits) head₀ used₀ elapsed₀ waiting₀ runs₀)
+    (held bytes₀ len₀)
     input
     room₀
-    (runOf t head used elapsed waiting runs)
-    held
+    (runOf (tableOf f ranks times tags limits) head used elapsed waiting runs)
+    (held bytes len)
     room
     at
     i
 
 abbrev μ-loop : tie.MeasureT-loop
-μ-loop t used₀ elapsed₀ waiting₀ runs₀ input room₀ head₀ held₀ at₀ i₀ used elapsed waiting runs room head held at i =
+μ-loop f ranks times tags limits used₀ elapsed₀ waiting₀ runs₀ input room₀ head₀ bytes₀ len₀ at₀ i₀ used elapsed waiting runs room head bytes len at i =
     length input - i
 
-sized : (c : tie.Start Inv-loop μ-loop) → Sized (c .args .t)
-sized c =
-    record {
-      servers = sym (length-map (c .args .t .servers) _) ∙ c .good .0 .1 .1 .1 .1 .1 .0 .1 .0 .1;
-      tasks = sym (length-map (c .args .t .tasks) _) ∙ c .good .0 .1 .1 .1 .1 .1 .1 .0 .1 .0 .1;
-    }
+abbrev tab : (c : tie.Start Inv-loop μ-loop) → Table
+tab c = tableOf (c .args .f) (c .args .ranks .now) (c .args .times .now) (c .args .tags .now) (c .args .limits .now)
 
 long : (c : tie.Start Inv-loop μ-loop) → length (c .args .line .bytes) ≡ 13
-long c = sym (length-map (c .args .line .bytes) _) ∙ c .good .1 .1 .1 .1 .1 .1 .0 .1 .1 .0 .1 .0 .1
+long c =
+    sym (length-map (c .args .line .bytes) _) ∙ c .good .1 .1 .1 .1 .1 .1 .1 .1 .1 .1 .0 .1 .1 .0 .1 .0 .1
 
 loop-holds : tie.Need-loop-holds Inv-loop μ-loop
 loop-holds c =
-    let s = c .before .before in
+    let s = c .before .before .before in
     let a = s .args in
     going-start _ _ _ _
-    (ready-fine (a .t) (a .h) (a .used .now) (a .elapsed .now) (a .waiting .now) (a .runs .now) (a .line) (sized s) (s .pre))
+    (ready-fine (tab s) (a .h) (a .used .now) (a .elapsed .now) (a .waiting .now) (a .runs .now) (a .line)
+    (sized (a .f) (a .ranks .now) (a .times .now) (a .tags .now) (a .limits .now)) (s .pre))
     (long s)
 
 sub-if1 : tie.Need-sub-if1 Inv-loop μ-loop
@@ -73,15 +74,16 @@ loop-less c = omega arith
 
 loop-again : tie.Need-loop-again Inv-loop μ-loop
 loop-again c =
-    let l = c .before .before .before .before .before .loop in
-    going-held _ _ _ _ _ _ _ _ _ (l .inv) _ (c .before .before .before .before .loop-test .taken)
+    let b = c .before .before in
+    let l = b .before .before .before .before .loop in
+    going-held _ _ _ _ _ _ _ _ _ (l .inv) _ (b .before .before .before .loop-test .taken)
     (omega (arith, room-long _ _ _ _ _ _ _ _ _ (l .inv)))
-    (c .before .if2 .taken)
+    (b .if2 .taken)
     (c .hold .ensures)
 
 close-line-requires : tie.Need-close-line-requires Inv-loop μ-loop
 close-line-requires c κs =
-    let l = c .before .before .before .before .before .before .before .before .before .loop in
+    let l = c .before .before .before .before .before .before .before .before .before .before .loop in
     going-ready _ _ _ _ _ _ _ _ _ _ _ _ _ _ (l .inv)
 
 loop-less-2 : tie.Need-loop-less-2 Inv-loop μ-loop
@@ -89,14 +91,14 @@ loop-less-2 c = omega arith
 
 loop-again-2 : tie.Need-loop-again-2 Inv-loop μ-loop
 loop-again-2 c =
-    let d = c .before .before .before .before in
-    let b = d .before .before .before .before .before .before in
+    let d = c .before .before .before in
+    let b = d .before .before .before .before .before .before .before in
     let l = b .before .before .before .before .loop in
     going-closed _ _ _ _ _ _ _ _ _ (l .inv) _ _ _ _ (b .before .before .before .loop-test .taken)
     (omega (arith, room-long _ _ _ _ _ _ _ _ _ (l .inv)))
     (b .if2 .left)
     (d .close-line .ensures)
-    (held-none (l .held .bytes))
+    (held-none (l .bytes))
     (l .inv .long)
 
 same-length-2 : tie.Need-same-length-2 Inv-loop μ-loop

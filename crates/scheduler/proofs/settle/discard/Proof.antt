@@ -7,30 +7,29 @@ use native.Mathlib.Omega.{arith}
 use lib.ListN.{getD}
 use Rattle.laws.specs.Rows.{anew, sumBelow}
 use Rattle.laws.proofs.Anew.{anew-none}
+use Rattle.table.specs.Rows.{isLow}
+use Rattle.scheduler.specs.Sheets.{tasksIn}
 use Rattle.scheduler.specs.Settle.{keptOf, goneOf}
 use Rattle.scheduler.proofs.Rows.{discard-put, discard-stay, discard-more, discard-none}
 use Rattle.scheduler.proofs.settle.discard.Statement.{statement}
 use Rattle.scheduler.proofs.settle.discard.Tie as tie
 
 abbrev Inv-loop : tie.InvT-loop
-Inv-loop waiting₀ runs₀ t count₀ k₀ k-end waiting runs count k =
-    (k ≤ k-end) × (count ≤ k * 255)
-    × (waiting ≡ anew k (keptOf t) waiting₀)
-    × (runs ≡ anew k (keptOf t) runs₀)
-    × (count ≡ sumBelow k (λ j. goneOf t j (getD waiting₀ j 0)))
+Inv-loop n tags limits waiting₀ runs₀ count₀ k₀ waiting runs count k =
+    (k ≤ n) × (count ≤ k * 255)
+    × (waiting ≡ anew k (keptOf (tasksIn tags limits)) waiting₀)
+    × (runs ≡ anew k (keptOf (tasksIn tags limits)) runs₀)
+    × (count ≡ sumBelow k (λ j. goneOf (tasksIn tags limits) j (getD waiting₀ j 0)))
 
 abbrev μ-loop : tie.MeasureT-loop
-μ-loop waiting₀ runs₀ t count₀ k₀ k-end waiting runs count k = k-end - k
+μ-loop n tags limits waiting₀ runs₀ count₀ k₀ waiting runs count k = n - k
 
 loop-holds : tie.Need-loop-holds Inv-loop μ-loop
 unfolding sumBelow
 loop-holds c = (omega arith, omega arith, anew-none _ _, anew-none _ _, refl)
 
-mul-row : tie.Need-mul-row Inv-loop μ-loop
-mul-row c = omega arith
-
-element-copy-out-row : tie.Need-element-copy-out-row Inv-loop μ-loop
-element-copy-out-row c = omega arith
+task-at-requires : tie.Need-task-at-requires Inv-loop μ-loop
+task-at-requires c κs = omega arith
 
 is-low-requires : tie.Need-is-low-requires Inv-loop μ-loop
 is-low-requires c κs = tt
@@ -61,32 +60,34 @@ loop-less c = omega arith
 
 loop-again : tie.Need-loop-again Inv-loop μ-loop
 loop-again c =
-    let a = c .before .before .before .before .before .args in
-    let l = c .before .before .before .before .loop in
-    let low = c .before .is-low .ensures in
+    let d = c .before .before in
+    let l = d .before .before .loop in
+    let a = d .before .before .before .args in
+    let ts = tasksIn (a .tags .now) (a .limits .now) in
+    let low = c .before .is-low .ensures ∙ ap (λ t. isLow (t .level)) (d .task-at .ensures) in
     ⊎-elim
     (λ w.
     let yes-low = sym low ∙ w .0 .taken in (
       omega arith,
       omega (arith, w .2 .ensures .0, w .2 .ensures .1),
-      w .3 ∙ discard-put (a .t1) (a .waiting .now) (l .waiting) (l .k) (l .inv .2) yes-low,
-      w .4 ∙ discard-put (a .t1) (a .runs .now) (l .runs) (l .k) (l .inv .3) yes-low,
+      w .3 ∙ discard-put ts (a .waiting .now) (l .waiting) (l .k) (l .inv .2) yes-low,
+      w .4 ∙ discard-put ts (a .runs .now) (l .runs) (l .k) (l .inv .3) yes-low,
       w .5 ∙ ap (λ x. l .count + x) (w .2 .ensures .0)
-          ∙ discard-more (a .t1) (a .waiting .now) (l .waiting) (l .k) (l .inv .2) (l .count) (l .inv .4) yes-low,
+          ∙ discard-more ts (a .waiting .now) (l .waiting) (l .k) (l .inv .2) (l .count) (l .inv .4) yes-low,
     ))
     (λ w.
     let not-low = sym low ∙ w .0 .left in (
       omega arith,
       omega arith,
-      w .1 ∙ discard-stay (a .t1) (a .waiting .now) (l .waiting) (l .k) (l .inv .2) not-low,
-      w .2 ∙ discard-stay (a .t1) (a .runs .now) (l .runs) (l .k) (l .inv .3) not-low,
-      w .3 ∙ discard-none (a .t1) (a .waiting .now) (l .k) (l .count) (l .inv .4) not-low,
+      w .1 ∙ discard-stay ts (a .waiting .now) (l .waiting) (l .k) (l .inv .2) not-low,
+      w .2 ∙ discard-stay ts (a .runs .now) (l .runs) (l .k) (l .inv .3) not-low,
+      w .3 ∙ discard-none ts (a .waiting .now) (l .k) (l .count) (l .inv .4) not-low,
     ))
     (c .if1 .came)
 
 returns : tie.Need-returns Inv-loop μ-loop
 returns c =
-    let e : c .before .loop .k ≡ c .before .before .args .t1 .ntasks = omega arith in
+    let e : c .before .loop .k ≡ c .before .before .args .n = omega arith in
     (rw (← e) (c .before .loop .inv .2), rw (← e) (c .before .loop .inv .3), rw (← e) (c .before .loop .inv .4))
 
 pub discard-spec : {M : Type 1} → statement M
@@ -96,8 +97,7 @@ discard-spec =
     Inv-loop
     μ-loop
     loop-holds
-    mul-row
-    element-copy-out-row
+    task-at-requires
     is-low-requires
     element-copy-out-jobs
     jobs-requires

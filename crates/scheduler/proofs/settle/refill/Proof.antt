@@ -1,45 +1,63 @@
 -- `scheduler::settle::refill` meets its contract: the rows passed are refilled, the others as they were. Assumes
 -- nothing.
-use mathlib.Core.Path.{_≡_, _∙_}
-use mathlib.Core.Logic.{⊎-elim}
+use mathlib.Core.Path.{_≡_, ap, _∙_}
 use Prim.Native.Nat.{_≤_, _-_}
 use native.Mathlib.Omega.{arith}
+use lib.Dec.{eqb}
+use lib.ListN.{getD}
+use Rattle.laws.specs.Choice.{if_then_else_}
 use Rattle.laws.specs.Rows.{anew}
 use Rattle.laws.proofs.Anew.{anew-none}
+use Rattle.scheduler.specs.Sheets.{serversIn}
 use Rattle.scheduler.specs.Settle.{refilled}
-use Rattle.scheduler.proofs.Rows.{refill-put, refill-stay}
+use Rattle.scheduler.proofs.Rows.{refill-put}
 use Rattle.scheduler.proofs.settle.refill.Statement.{statement}
 use Rattle.scheduler.proofs.settle.refill.Tie as tie
 
 abbrev Inv-loop : tie.InvT-loop
-Inv-loop used₀ elapsed₀ t i₀ i-end used elapsed i =
-    (i ≤ i-end)
-    × (used ≡ anew i (refilled t elapsed₀) used₀)
-    × (elapsed ≡ anew i (refilled t elapsed₀) elapsed₀)
+Inv-loop n ranks times used₀ elapsed₀ i₀ used elapsed i =
+    (i ≤ n)
+    × (used ≡ anew i (refilled (serversIn ranks times) elapsed₀) used₀)
+    × (elapsed ≡ anew i (refilled (serversIn ranks times) elapsed₀) elapsed₀)
 
 abbrev μ-loop : tie.MeasureT-loop
-μ-loop used₀ elapsed₀ t i₀ i-end used elapsed i = i-end - i
+μ-loop n ranks times used₀ elapsed₀ i₀ used elapsed i = n - i
 
 loop-holds : tie.Need-loop-holds Inv-loop μ-loop
 loop-holds c = (omega arith, anew-none _ _, anew-none _ _)
 
-mul-s : tie.Need-mul-s Inv-loop μ-loop
-mul-s c = omega arith
+server-at-requires : tie.Need-server-at-requires Inv-loop μ-loop
+server-at-requires c κs = omega arith
 
-element-copy-out-s : tie.Need-element-copy-out-s Inv-loop μ-loop
-element-copy-out-s c = omega arith
+mul-over : tie.Need-mul-over Inv-loop μ-loop
+mul-over c = omega arith
 
-mul-if1 : tie.Need-mul-if1 Inv-loop μ-loop
-mul-if1 c = omega arith
+element-copy-out-over : tie.Need-element-copy-out-over Inv-loop μ-loop
+element-copy-out-over c = omega arith
 
-element-copy-out-if1 : tie.Need-element-copy-out-if1 Inv-loop μ-loop
-element-copy-out-if1 c = omega arith
+mul-left-of : tie.Need-mul-left-of Inv-loop μ-loop
+mul-left-of c = omega arith
+
+element-copy-out-left-of : tie.Need-element-copy-out-left-of Inv-loop μ-loop
+element-copy-out-left-of c = omega arith
+
+left-of-requires : tie.Need-left-of-requires Inv-loop μ-loop
+left-of-requires c κs = tt
 
 mul-used : tie.Need-mul-used Inv-loop μ-loop
 mul-used c = omega arith
 
 element-write-used : tie.Need-element-write-used Inv-loop μ-loop
 element-write-used c = omega arith
+
+mul-left-of-2 : tie.Need-mul-left-of-2 Inv-loop μ-loop
+mul-left-of-2 c = omega arith
+
+element-copy-out-left-of-2 : tie.Need-element-copy-out-left-of-2 Inv-loop μ-loop
+element-copy-out-left-of-2 c = omega arith
+
+left-of-requires-2 : tie.Need-left-of-requires-2 Inv-loop μ-loop
+left-of-requires-2 c κs = tt
 
 mul-elapsed : tie.Need-mul-elapsed Inv-loop μ-loop
 mul-elapsed c = omega arith
@@ -55,25 +73,21 @@ loop-less c = omega arith
 
 loop-again : tie.Need-loop-again Inv-loop μ-loop
 loop-again c =
-    let a = c .before .before .before .before .before .before .args in
-    let l = c .before .before .before .before .before .loop in
-    let u = refill-put (a .t1) (a .elapsed .now) (l .elapsed) (a .used .now) (l .used) (l .i) (l .inv .2) (l .inv .1) in
-    let e =
-    refill-put (a .t1) (a .elapsed .now) (l .elapsed) (a .elapsed .now) (l .elapsed) (l .i) (l .inv .2)
-    (l .inv .2) in
-    let u′ =
-    refill-stay (a .t1) (a .elapsed .now) (l .elapsed) (a .used .now) (l .used) (l .i) (l .inv .2) (l .inv .1) in
-    let e′ =
-    refill-stay (a .t1) (a .elapsed .now) (l .elapsed) (a .elapsed .now) (l .elapsed) (l .i) (l .inv .2)
-    (l .inv .2) in
-    ⊎-elim
-    (λ w. (omega arith, w .1 ∙ u (w .0 .taken), w .2 ∙ e (w .0 .taken)))
-    (λ w. (omega arith, w .1 ∙ u′ (w .0 .left), w .2 ∙ e′ (w .0 .left)))
-    (c .if1 .came)
+    let d = c .before .before .before .before .before .before in
+    let l = d .before .before .loop in
+    let a = d .before .before .before .args in
+    let ss = serversIn (a .ranks .now) (a .times .now) in
+    let over = ap (λ s. eqb (getD (l .elapsed) (l .i) 0) (s .period .0)) (d .server-at .ensures) in (
+      omega arith,
+      refill-put ss (a .elapsed .now) (l .elapsed) (a .used .now) (l .used) (l .i) (l .inv .2) (l .inv .1) _
+          (c .before .before .left-of .ensures ∙ ap (λ b. if b then 0 else getD (l .used) (l .i) 0) over),
+      refill-put ss (a .elapsed .now) (l .elapsed) (a .elapsed .now) (l .elapsed) (l .i) (l .inv .2) (l .inv .2) _
+          (c .left-of2 .ensures ∙ ap (λ b. if b then 0 else getD (l .elapsed) (l .i) 0) over),
+    )
 
 returns : tie.Need-returns Inv-loop μ-loop
 returns c =
-    let e : c .before .loop .i ≡ c .before .before .args .t1 .nservers = omega arith in
+    let e : c .before .loop .i ≡ c .before .before .args .n = omega arith in
     (rw (← e) (c .before .loop .inv .1), rw (← e) (c .before .loop .inv .2))
 
 pub refill-spec : {M : Type 1} → statement M
@@ -83,12 +97,17 @@ refill-spec =
     Inv-loop
     μ-loop
     loop-holds
-    mul-s
-    element-copy-out-s
-    mul-if1
-    element-copy-out-if1
+    server-at-requires
+    mul-over
+    element-copy-out-over
+    mul-left-of
+    element-copy-out-left-of
+    left-of-requires
     mul-used
     element-write-used
+    mul-left-of-2
+    element-copy-out-left-of-2
+    left-of-requires-2
     mul-elapsed
     element-write-elapsed
     add-i
