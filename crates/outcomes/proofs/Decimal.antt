@@ -1,4 +1,5 @@
--- The public functions of crate decimal. Assumes nothing.
+-- The contracts of crate decimal settle what they answer and what they leave in the lent room: two outcomes that one
+-- of them allows equal the same definition's value. Assumes nothing.
 use mathlib.Core.Path.{refl, ap, sym, _∙_}
 use denote.Ref.{now}
 use Rattle.decimal.proofs.is_number
@@ -24,6 +25,7 @@ read-number-settled = settled (λ κs a. tt) (λ κs a x y p q. (p ∙ sym q, re
 pub is-same-settled : Settled is_same.Kinds.ps is_same.Kinds.r is_same.Reads.Asked is_same.Reads.Learnt
 is-same-settled = settled (λ κs a. tt) (λ κs a x y p q. (p ∙ sym q, refl))
 
+-- A part of the lent line is handed back: its bytes are settled.
 pub field-settled : SettledBytes field.Kinds.ps field.Kinds.r (λ κs r. now r) field.Reads.Asked field.Reads.Learnt
 field-settled = record { every-input = λ κs a. tt; one-outcome = λ κs a x y p q. (p ∙ sym q, refl) }
 

@@ -1,4 +1,5 @@
--- The public functions of crate laws. Assumes nothing.
+-- The contracts of crate laws settle what they answer: two outcomes that one of them allows equal the same
+-- definition's value. Assumes nothing.
 use mathlib.Core.Path.{refl, sym, _∙_}
 use Rattle.laws.proofs.all_of
 use Rattle.laws.proofs.is_within

@@ -6,3 +6,4 @@ pub mod Text
 pub mod Verdict
 pub mod Lines
 pub mod Scheduler
+pub mod Open

@@ -1,4 +1,5 @@
--- The public functions of crate lines. Assumes nothing.
+-- The contracts of crate lines settle what they answer and what they leave in the lent room: two outcomes that one of
+-- them allows equal the same definition's value. Assumes nothing.
 use mathlib.Core.Path.{refl, ap, sym, _∙_}
 use Rattle.lines.proofs.read_event
 use Rattle.lines.proofs.hold

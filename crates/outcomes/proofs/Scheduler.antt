@@ -1,4 +1,5 @@
--- The public functions of crate scheduler. Assumes nothing.
+-- The contracts of crate scheduler settle what they answer and what they leave in the lent room: two outcomes that
+-- one of them allows equal the same definition's value. Assumes nothing.
 use mathlib.Core.Path.{refl, ap, sym, _∙_}
 use Rattle.scheduler.proofs.start
 use Rattle.scheduler.proofs.release
@@ -17,4 +18,5 @@ pub tick-settled : Settled tick.Kinds.ps tick.Kinds.r tick.Reads.Asked tick.Read
 tick-settled = settled (λ κs a. tt) (λ κs a x y p q. (p ∙ sym q, refl))
 
 pub serve-settled : Settled serve.Kinds.ps serve.Kinds.r serve.Reads.Asked serve.Reads.Learnt
-serve-settled = settled (λ κs a. tt) (λ κs a x y p q. (ap (λ v. v .served) (p ∙ sym q), ap (λ v. (tt, (tt, (tt, (v .room, tt))))) (p ∙ sym q)))
+serve-settled = settled (λ κs a. tt) (λ κs a x y p q.
+    (ap (λ v. v .served) (p ∙ sym q), ap (λ v. (tt, (tt, (tt, (v .room, tt))))) (p ∙ sym q)))

@@ -1,4 +1,4 @@
--- Two outcomes are equal if their answers and the lent bytes are. Assumes nothing.
+-- Two outcomes are equal if their answers are and the lent bytes are. Assumes nothing.
 use Prim.Native.Nat.{ℕ}
 use mathlib.Core.Path.{_≡_}
 use mathlib.Core.List.{List}
@@ -8,7 +8,10 @@ use Rattle.outcomes.specs.Settled.{Outcome, Allowed, Settled}
 
 pub settled : {n : ℕ} {ps : List (PK n)} {r : RK n} {asked : In n ps} {learnt : Out n ps r} →
     ((κs : Lfts n) (a : Dens κs ps) → asked κs a) →
-    ((κs : Lfts n) (a : Dens κs ps) (x y : Outcome ps r κs a) → Allowed ps r learnt κs a x → Allowed ps r learnt κs a y →
-    (x .answer ≡ y .answer) × (x .lent ≡ y .lent)) → Settled ps r asked learnt
-settled f g =
-    record { every-input = f; one-outcome = λ κs a x y p q i. record { answer = g κs a x y p q .0 i; lent = g κs a x y p q .1 i } }
+    ((κs : Lfts n) (a : Dens κs ps) (x y : Outcome ps r κs a) → Allowed ps r learnt κs a x →
+    Allowed ps r learnt κs a y → (x .answer ≡ y .answer) × (x .lent ≡ y .lent)) →
+    Settled ps r asked learnt
+settled every same = record {
+  every-input = every;
+  one-outcome = λ κs a x y p q i. record { answer = same κs a x y p q .0 i; lent = same κs a x y p q .1 i };
+}

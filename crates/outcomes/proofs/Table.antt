@@ -1,4 +1,5 @@
--- The public functions of crate table. Assumes nothing.
+-- The contracts of crate table settle what they answer: two outcomes that one of them allows equal the same
+-- definition's value. Assumes nothing.
 use mathlib.Core.Path.{refl, sym, _∙_}
 use Rattle.table.proofs.number_of
 use Rattle.table.proofs.first_pair

@@ -1,4 +1,5 @@
--- The public functions of crate verdict. Assumes nothing.
+-- The contracts of crate verdict settle what they answer: two outcomes that one of them allows equal the same
+-- definition's value. Assumes nothing.
 use mathlib.Core.Path.{refl, sym, _∙_}
 use Rattle.verdict.proofs.verdict_of
 use Rattle.outcomes.specs.Settled.{Settled}
