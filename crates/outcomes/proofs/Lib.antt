@@ -5,5 +5,6 @@ pub mod Decimal
 pub mod Text
 pub mod Verdict
 pub mod Lines
+pub mod Soundness
 pub mod Scheduler
 pub mod Open

@@ -15,7 +15,8 @@ pub read-event-settled : Settled read_event.Kinds.ps read_event.Kinds.r read_eve
 read-event-settled = settled (λ κs a. tt) (λ κs a x y p q. (p ∙ sym q, refl))
 
 pub hold-settled : Settled hold.Kinds.ps hold.Kinds.r hold.Reads.Asked hold.Reads.Learnt
-hold-settled = settled (λ κs a. tt) (λ κs a x y p q. (p ∙ sym q, refl))
+hold-settled = settled (λ κs a. tt) (λ κs a x y p q.
+    (ap (λ h. h .len) (p ∙ sym q), ap (λ h. (h .bytes, (tt, (tt, tt)))) (p ∙ sym q)))
 
 pub read-held-settled : Settled read_held.Kinds.ps read_held.Kinds.r read_held.Reads.Asked read_held.Reads.Learnt
 read-held-settled = settled (λ κs a. tt) (λ κs a x y p q. (p ∙ sym q, refl))
