@@ -10,9 +10,10 @@ use lib.ListN.{length, length-append}
 use borrow.Author.Tests.{eqb-true, eq-eqb, ne-eqb, not-true, leb-true, le-leb}
 use Rattle.laws.specs.Choice.{within}
 use Rattle.laws.proofs.Choice.{clash, and-true, and-left, and-right, within-low}
-use Rattle.decimal.specs.Number.{areDigits, digits}
+use Rattle.decimal.specs.Number.{areDigits, isNumber, digits}
 use Rattle.decimal.specs.Parts.{lineFeed, toFirst, split, join, closed, same}
 use Rattle.decimal.proofs.Digits.{are-digits}
+use Rattle.decimal.proofs.Walk.{number-digits}
 
 -- no byte is b
 unfoldable pub lacks : ℕ → List ℕ → Bool
@@ -151,6 +152,10 @@ digits-are-high (b ∷ bs) e =
 
 pub high-digits : (n : ℕ) → high (digits n) ≡ true
 high-digits n = digits-are-high (digits n) (are-digits n)
+
+-- so a number is one field
+pub number-lacks : (c : ℕ) (bs : List ℕ) → c < 48 → isNumber bs ≡ true → lacks c bs ≡ true
+number-lacks c bs h e = high-lacks c bs h (digits-are-high bs (number-digits bs e))
 
 lacks-append : (c : ℕ) (xs ys : List ℕ) → lacks c xs ≡ true → lacks c ys ≡ true → lacks c (xs ++ ys) ≡ true
 unfolding lacks

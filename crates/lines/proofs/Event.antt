@@ -1,20 +1,20 @@
--- What a line says, from what its fields are. A line is no event as soon as one test of each form fails, so none that is longer than
--- 13 bytes is one: a letter, a tab and a number of at most 11 digits. Assumes nothing.
+-- What a line says, from its bytes. An event line is a letter, a tab and a number, which has no tab and at most 11 digits. So a line
+-- that is not of this form, or is longer than 13 bytes, is another line. Assumes nothing.
 use mathlib.Core.Path.{_≡_, refl, sym, ap, _∙_}
 use mathlib.Core.Bool.{Bool, true, false}
-use mathlib.Core.List.{List, [], _∷_, _++_}
-use Prim.Native.Nat.{ℕ, _+_, _≤_, _<_}
+use mathlib.Core.List.{List, [], _∷_}
+use mathlib.Core.Logic.{_⊎_, inl, inr}
+use Prim.Native.Nat.{ℕ, _≤_, _<_}
 use native.Mathlib.Omega.{arith}
 use lib.Dec.{eqb, leb}
-use lib.ListN.{length, getD, length-append}
-use borrow.Author.Tests.{eq-eqb, ne-eqb, le-leb, lt-leb, eqb-true}
+use lib.ListN.{length, getD, drop}
+use borrow.Author.Tests.{le-leb, lt-leb, eqb-true}
 use Rattle.laws.specs.Choice.{if_then_else_, every}
-use Rattle.laws.proofs.Choice.{every-at, every-not, if-ind, true-or-false}
-use Rattle.decimal.specs.declared.Number.{Number}
+use Rattle.laws.proofs.Choice.{clash, every-at, if-ind}
 use Rattle.decimal.specs.declared.Number.the-variants.{Value, Bad}
 use Rattle.decimal.specs.Number.{isNumber, worth, readNumber}
 use Rattle.decimal.specs.Parts.{tab, split, join, same}
-use Rattle.decimal.proofs.Parts.{join-split, same-eq}
+use Rattle.decimal.proofs.Parts.{lacks, split-part, split-whole, join-split, same-eq, number-lacks}
 use Rattle.decimal.proofs.Digits.{worth-fits}
 use Rattle.decimal.proofs.Walk.{number-long}
 use Rattle.run.specs.declared.Event.{Event}
@@ -24,15 +24,71 @@ use Rattle.lines.specs.declared.EventLine.the-variants.{Of, Another}
 use Rattle.lines.specs.Words.{releaseLetter, tickLetter}
 use Rattle.lines.specs.EventLine.{releaseForm, tickForm, eventSaid, eventLine}
 
--- what was found of a line's fields
-pub record Fields (l : List ℕ) (count : ℕ) (release tick : Bool) (n : Number) : Type 0 where
-  pub many : count ≡ length (split tab l)
-  pub r : release ≡ same (getD (split tab l) 0 []) (82 ∷ [])
-  pub t : tick ≡ same (getD (split tab l) 0 []) (84 ∷ [])
-  pub number : n ≡ readNumber (getD (split tab l) 1 [])
+-- a letter, a tab and a number
+record Formed (l : List ℕ) : Type 0 where
+  letter : ℕ
+  number : List ℕ
+  line : l ≡ letter ∷ (tab ∷ number)
+  known : (letter ≡ 82) ⊎ (letter ≡ 84)
+  numeric : isNumber number ≡ true
+
+two-fields : (letter : ℕ) (fs : List (List ℕ)) → length fs ≡ 2 → same (getD fs 0 []) (letter ∷ []) ≡ true →
+    join tab fs ≡ letter ∷ (tab ∷ getD fs 1 [])
+unfolding join
+two-fields letter [] e s = absurd (omega arith)
+two-fields letter (f ∷ []) e s = absurd (omega arith)
+two-fields letter (f ∷ (g ∷ [])) e s = rw (same-eq f (letter ∷ []) s)
+two-fields letter (f ∷ (g ∷ (h ∷ fs))) e s = absurd (omega arith)
+
+-- the first three tests of both forms
+abbrev tests : List ℕ → ℕ → List Bool → Type 0
+tests l letter bs =
+    (getD bs 0 true ≡ eqb (length (split tab l)) 2) ×
+    (getD bs 1 true ≡ same (getD (split tab l) 0 []) (letter ∷ [])) ×
+    (getD bs 2 true ≡ isNumber (getD (split tab l) 1 []))
+
+formed : (l : List ℕ) (letter : ℕ) → (letter ≡ 82) ⊎ (letter ≡ 84) → (bs : List Bool) → tests l letter bs → every bs ≡ true → Formed l
+formed l letter w bs t e =
+    record {
+      letter = letter;
+      number = getD (split tab l) 1 [];
+      line =
+          sym (join-split tab l) ∙
+          two-fields letter (split tab l)
+          (eqb-true (length (split tab l)) 2 (sym (t .0) ∙ every-at bs e 0))
+          (sym (t .1) ∙ every-at bs e 1);
+      known = w;
+      numeric = sym (t .2) ∙ every-at bs e 2;
+    }
+
+not-event : (l : List ℕ) → (Formed l → ⊥) → Another ≡ eventLine l
+unfolding eventLine eventSaid releaseForm tickForm releaseLetter tickLetter
+not-event l h =
+    let fs = split tab l in
+    rw (
+      fails (every (releaseForm fs)) (λ e. h (formed l 82 (inl refl) (releaseForm fs) (refl, refl, refl) e)),
+      fails (every (tickForm fs)) (λ e. h (formed l 84 (inr refl) (tickForm fs) (refl, refl, refl) e)),
+    )
+  where
+    fails : (b : Bool) → (b ≡ true → ⊥) → b ≡ false
+    fails true f = absurd (f refl)
+    fails false f = refl
+
+pub said-short : (l : List ℕ) → length l < 2 → Another ≡ eventLine l
+said-short l h = not-event l (λ p. omega (arith, ap length (p .line)))
+
+pub said-no-tab : (l : List ℕ) → (getD l 1 0 ≡ tab → ⊥) → Another ≡ eventLine l
+said-no-tab l h = not-event l (λ p. h (ap (λ x. getD x 1 0) (p .line)))
+
+pub said-no-letter : (l : List ℕ) → (getD l 0 0 ≡ 82 → ⊥) → (getD l 0 0 ≡ 84 → ⊥) → Another ≡ eventLine l
+said-no-letter l h k =
+    not-event l (λ p. let e = ap (λ x. getD x 0 0) (p .line) in elim (p .known) [ inl q ↦ h (e ∙ q) | inr q ↦ k (e ∙ q) ])
+
+pub long-another : (l : List ℕ) → 13 < length l → Another ≡ eventLine l
+long-another l h = not-event l (λ p. omega (arith, ap length (p .line), number-long (p .number) (p .numeric)))
 
 -- a number is read exactly from its form
-pub number-bad : (bs : List ℕ) → readNumber bs ≡ Bad → isNumber bs ≡ false
+number-bad : (bs : List ℕ) → readNumber bs ≡ Bad → isNumber bs ≡ false
 unfolding readNumber
 number-bad bs e = go (isNumber bs) refl e
   where
@@ -40,7 +96,7 @@ number-bad bs e = go (isNumber bs) refl e
     go true q h = let z : _≡_ {A = ℕ} 0 1 = cc in absurd (omega arith)
     go false q h = q
 
-pub number-value : (bs : List ℕ) (v : ℕ) → readNumber bs ≡ Value v → (isNumber bs ≡ true) × (worth bs ≡ v)
+number-value : (bs : List ℕ) (v : ℕ) → readNumber bs ≡ Value v → (isNumber bs ≡ true) × (worth bs ≡ v)
 unfolding readNumber
 number-value bs v e = go (isNumber bs) refl e
   where
@@ -48,92 +104,43 @@ number-value bs v e = go (isNumber bs) refl e
     go true q h = (q, cc)
     go false q h = let z : _≡_ {A = ℕ} 0 1 = cc in absurd (omega arith)
 
--- a test of each form fails
-another : (l : List ℕ) → every (releaseForm (split tab l)) ≡ false → every (tickForm (split tab l)) ≡ false → Another ≡ eventLine l
-unfolding eventLine eventSaid
-another l p q = rw (p, q)
+pub said-no-number : (l : List ℕ) → readNumber (drop 2 l) ≡ Bad → Another ≡ eventLine l
+said-no-number l e =
+    not-event l (λ p. clash (isNumber (p .number)) (p .numeric) (rw (p .line) at (number-bad (drop 2 l) e)))
 
-module _ (l : List ℕ) (count : ℕ) (release tick : Bool) (n : Number) (f : Fields l count release tick n) where
-  pub said-no-number : n ≡ Bad → Another ≡ eventLine l
-  unfolding releaseForm tickForm
-  said-no-number e =
-      let b = number-bad (getD (split tab l) 1 []) (sym (f .number) ∙ e) in
-      another l (every-not (releaseForm (split tab l)) 2 b) (every-not (tickForm (split tab l)) 2 b)
+-- what was found of a line
+pub record Found (l : List ℕ) (letter v : ℕ) : Type 0 where
+  pub long : 2 ≤ length l
+  pub first : getD l 0 0 ≡ letter
+  pub parted : getD l 1 0 ≡ tab
+  pub number : readNumber (drop 2 l) ≡ Value v
 
-  pub said-not-two : (count ≡ 2 → ⊥) → Another ≡ eventLine l
-  unfolding releaseForm tickForm
-  said-not-two h =
-      let b = ne-eqb (length (split tab l)) 2 (λ q. h (f .many ∙ q)) in
-      another l (every-not (releaseForm (split tab l)) 0 b) (every-not (tickForm (split tab l)) 0 b)
+found-fields : (l : List ℕ) (letter v : ℕ) → Found l letter v → lacks tab (letter ∷ []) ≡ true →
+    split tab l ≡ (letter ∷ []) ∷ (drop 2 l ∷ [])
+found-fields [] letter v f h = absurd (omega (arith, f .long))
+found-fields (a ∷ []) letter v f h = absurd (omega (arith, f .long))
+found-fields (a ∷ (b ∷ bs)) letter v f h =
+    let n = number-value bs v (f .number) in
+    rw
+    (f .first, f .parted)
+    (split-part tab (letter ∷ []) bs h ∙ ap (λ r. (letter ∷ []) ∷ r) (split-whole tab bs (number-lacks tab bs (omega arith) (n .0))))
 
-  pub said-no-letter : release ≡ false → tick ≡ false → Another ≡ eventLine l
-  unfolding releaseForm tickForm releaseLetter tickLetter
-  said-no-letter p q =
-      another
-      l
-      (every-not (releaseForm (split tab l)) 1 (sym (f .r) ∙ p))
-      (every-not (tickForm (split tab l)) 1 (sym (f .t) ∙ q))
+pub said-release : (l : List ℕ) (v : ℕ) → Found l 82 v → Of (Release v) ≡ eventLine l
+unfolding eventLine eventSaid releaseForm releaseLetter every same lacks
+said-release l v f =
+    let n = number-value (drop 2 l) v (f .number) in rw (found-fields l 82 v f refl, n .0, n .1)
 
-  pub said-release : (v : ℕ) → n ≡ Value v → count ≡ 2 → release ≡ true → Of (Release v) ≡ eventLine l
-  unfolding eventLine eventSaid releaseForm releaseLetter every
-  said-release v e k p =
-      let w = number-value (getD (split tab l) 1 []) v (sym (f .number) ∙ e) in
-      rw (eq-eqb (length (split tab l)) 2 (sym (f .many) ∙ k), sym (f .r) ∙ p, w .0, w .1)
+pub said-tick : (l : List ℕ) (v : ℕ) (mark : Bool) → Found l 84 v → v ≤ 1 → eqb v 1 ≡ mark → Of (Tick mark) ≡ eventLine l
+unfolding eventLine eventSaid releaseForm releaseLetter tickForm tickLetter every same lacks
+said-tick l v mark f h m =
+    let n = number-value (drop 2 l) v (f .number) in
+    rw (found-fields l 84 v f refl, n .0, n .1, le-leb v 1 h, m)
 
-  pub said-mark : (v : ℕ) → n ≡ Value v → 1 < v → release ≡ false → Another ≡ eventLine l
-  unfolding releaseForm tickForm releaseLetter
-  said-mark v e h p =
-      let w = number-value (getD (split tab l) 1 []) v (sym (f .number) ∙ e) in
-      another
-      l
-      (every-not (releaseForm (split tab l)) 1 (sym (f .r) ∙ p))
-      (every-not (tickForm (split tab l)) 3 (lt-leb (worth (getD (split tab l) 1 [])) 1 (omega (arith, w .1))))
-
-  pub said-tick : (v : ℕ) (mark : Bool) → eqb v 1 ≡ mark → n ≡ Value v → v ≤ 1 → count ≡ 2 → release ≡ false → tick ≡ true →
-      Of (Tick mark) ≡ eventLine l
-  unfolding eventLine eventSaid tickForm tickLetter releaseForm releaseLetter every
-  said-tick v mark m e h k p q =
-      let w = number-value (getD (split tab l) 1 []) v (sym (f .number) ∙ e) in
-      rw
-      (eq-eqb (length (split tab l)) 2 (sym (f .many) ∙ k), sym (f .r) ∙ p, sym (f .t) ∙ q, w .0, w .1, le-leb v 1 h, m)
-
--- a line of two fields is as long as both and the tab
-two-fields : (fs : List (List ℕ)) → length fs ≡ 2 → length (join tab fs) ≡ length (getD fs 0 []) + (length (getD fs 1 []) + 1)
-unfolding join
-two-fields [] e = absurd (omega arith)
-two-fields (f ∷ []) e = absurd (omega arith)
-two-fields (f ∷ (g ∷ [])) e = omega (arith, length-append f (tab ∷ g))
-two-fields (f ∷ (g ∷ (h ∷ fs))) e = absurd (omega arith)
-
--- a letter and a number
-not-long : (l : List ℕ) (letter : ℕ) → length (split tab l) ≡ 2 → same (getD (split tab l) 0 []) (letter ∷ []) ≡ true →
-    isNumber (getD (split tab l) 1 []) ≡ true → length l ≤ 13
-not-long l letter two first number =
-    omega (
-      arith,
-      two-fields (split tab l) two,
-      ap length (join-split tab l),
-      ap length (same-eq (getD (split tab l) 0 []) (letter ∷ []) first),
-      number-long (getD (split tab l) 1 []) number,
-    )
-
-long-fails : (l : List ℕ) (letter : ℕ) (b : Bool) → 13 < length l →
-    (b ≡ true → (length (split tab l) ≡ 2) × (same (getD (split tab l) 0 []) (letter ∷ []) ≡ true) ×
-    (isNumber (getD (split tab l) 1 []) ≡ true)) →
-    b ≡ false
-long-fails l letter false h f = refl
-long-fails l letter true h f =
-    let g = f refl in absurd (omega (arith, not-long l letter (g .0) (g .1) (g .2)))
-
-pub long-another : (l : List ℕ) → 13 < length l → Another ≡ eventLine l
-unfolding releaseForm tickForm releaseLetter tickLetter
-long-another l h =
-    let fs = split tab l in
-    another l
-    (long-fails l 82 (every (releaseForm fs)) h
-    (λ e. (eqb-true (length fs) 2 (every-at (releaseForm fs) e 0), every-at (releaseForm fs) e 1, every-at (releaseForm fs) e 2)))
-    (long-fails l 84 (every (tickForm fs)) h
-    (λ e. (eqb-true (length fs) 2 (every-at (tickForm fs) e 0), every-at (tickForm fs) e 1, every-at (tickForm fs) e 2)))
+pub said-mark : (l : List ℕ) (v : ℕ) → Found l 84 v → 1 < v → Another ≡ eventLine l
+unfolding eventLine eventSaid releaseForm releaseLetter tickForm tickLetter every same lacks
+said-mark l v f h =
+    let n = number-value (drop 2 l) v (f .number) in
+    rw (found-fields l 84 v f refl, n .0, n .1, lt-leb v 1 h)
 
 -- the task that a line releases, however great, has at most 11 digits
 abbrev pub EventSmall : Event → Type 0

@@ -8,6 +8,10 @@ use lib.ListN.{length, take, set, replicate}
 use Rattle.laws.specs.Choice.{if_then_else_}
 use Rattle.lines.specs.declared.Held.{Held}
 
+-- bytes and length, as one
+abbrev pub held : List ℕ → ℕ → Held
+held bytes len = record { bytes = bytes; len = len }
+
 -- the line that h holds; one that is too long is held as any that is
 unfoldable pub lineIn : Held → List ℕ
 lineIn h = if leb (h .len) 13 then take (h .len) (h .bytes) else replicate 14 0

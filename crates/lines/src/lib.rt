@@ -8,7 +8,7 @@ use run::Run;
 use table::Refusal;
 ghost use mathlib.Core.Path.{_≡_};
 ghost use Rattle.lines.specs.EventLine.{eventLine};
-ghost use Rattle.lines.specs.Held.{lineIn, heldOf, heldWith};
+ghost use Rattle.lines.specs.Held.{held, lineIn, heldOf, heldWith};
 
 // What a line of an event file says.
 pub enum EventLine {
@@ -41,24 +41,25 @@ pub struct Served {
     pub put: usize,
 }
 
-// What a line says, without its line feed. Its number is read once, before anything else of it.
+// What a line says, without its line feed: a letter, a tab, and a number after them.
 pub fn read_event(l: &[u8]) -> EventLine
     ensures { λ r. ⌜ r ≡ eventLine (now (l .entry)) ⌝ }
 {
-    let two = decimal::fields(l);
-    let release = decimal::word_in(l, 0, b"R");
-    let tick = decimal::word_in(l, 0, b"T");
-    let n = decimal::number_in(l, 1);
+    if l.len() < 2 {
+        return EventLine::Another;
+    }
+    if l[1] != b'\t' {
+        return EventLine::Another;
+    }
+    let letter = l[0];
+    let n = decimal::read_number(&l[2..]);
     let Number::Value(v) = n else {
         return EventLine::Another;
     };
-    if two != 2 {
-        return EventLine::Another;
-    }
-    if release {
+    if letter == b'R' {
         return EventLine::Of(Event::Release(v as usize));
     }
-    if !tick {
+    if letter != b'T' {
         return EventLine::Another;
     }
     if v == 0 {
@@ -70,30 +71,24 @@ pub fn read_event(l: &[u8]) -> EventLine
     EventLine::Another
 }
 
-// One byte more of a line that is not closed yet.
-pub fn hold(h: Held, b: u8) -> Held
-    ensures { λ r. ⌜ r ≡ heldWith h b ⌝ }
+// One byte more of a line that is not closed yet, whose bytes are lent: its length after it.
+pub fn hold(bytes: &mut [u8; LONGEST], len: usize, b: u8) -> usize
+    ensures { λ r. ⌜ held (now (bytes .exit)) r ≡ heldWith (held (now (bytes .entry)) len) b ⌝ }
 {
-    let at = h.len;
-    let mut bytes = h.bytes;
-    if at < LONGEST {
-        bytes[at] = b;
-        return Held { bytes, len: at + 1 };
+    if LONGEST <= len {
+        return LONGEST + 1;
     }
-    Held {
-        bytes,
-        len: LONGEST + 1,
-    }
+    bytes[len] = b;
+    len + 1
 }
 
 // What the line that is held says, now that it is closed.
-pub fn read_held(h: Held) -> EventLine
-    ensures { λ r. ⌜ r ≡ eventLine (lineIn h) ⌝ }
+pub fn read_held(bytes: &[u8; LONGEST], len: usize) -> EventLine
+    ensures { λ r. ⌜ r ≡ eventLine (lineIn (held (now (bytes .entry)) len)) ⌝ }
 {
-    let n = h.len;
-    let bytes = h.bytes;
-    if n <= LONGEST {
-        return read_event(&bytes[..n]);
+    if len <= LONGEST {
+        let whole: &[u8] = bytes;
+        return read_event(&whole[..len]);
     }
     EventLine::Another
 }

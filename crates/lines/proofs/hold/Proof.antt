@@ -7,22 +7,22 @@ use Rattle.lines.proofs.hold.Tie as tie
 use Rattle.lines.proofs.hold.Reads as reads
 use Rattle.lines.proofs.hold.Lts as lts
 
-array-write-bytes : tie.Need-array-write-bytes
-array-write-bytes c = search needs
-
-add-t9 : tie.Need-add-t9
-add-t9 c = search needs
+add-result : tie.Need-add-result
+add-result c = search needs
 
 returns : tie.Need-returns
 unfolding heldWith
-returns c = rw (lt-ltb _ 13 (c .if1 .taken))
+returns c = rw (le-ltb _ 13 (c .if1 .taken))
 
-add-t11 : tie.Need-add-t11
-add-t11 c = search needs
+element-write-bytes : tie.Need-element-write-bytes
+element-write-bytes c = search needs
+
+add-result-2 : tie.Need-add-result-2
+add-result-2 c = search needs
 
 returns-2 : tie.Need-returns-2
 unfolding heldWith
-returns-2 c = rw (le-ltb _ 13 (c .if1 .left))
+returns-2 c = rw (lt-ltb _ 13 (c .if1 .left))
 
 pub hold-spec : {M : Type 1} → statement M
-hold-spec = tie.close (tie.spec array-write-bytes add-t9 returns add-t11 returns-2)
+hold-spec = tie.close (tie.spec add-result returns element-write-bytes add-result-2 returns-2)
