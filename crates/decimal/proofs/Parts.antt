@@ -12,6 +12,7 @@ use Rattle.laws.specs.Choice.{within}
 use Rattle.laws.proofs.Choice.{clash, and-true, and-left, and-right, within-low}
 use Rattle.decimal.specs.Number.{areDigits, isNumber, digits}
 use Rattle.decimal.specs.Parts.{lineFeed, toFirst, split, join, closed, same}
+use Rattle.decimal.proofs.Cut.{split-some}
 use Rattle.decimal.proofs.Digits.{are-digits}
 use Rattle.decimal.proofs.Walk.{number-digits}
 
@@ -64,20 +65,6 @@ split-joined b (p ∷ []) h a = split-whole b p (and-left (lacks b p) true a)
 split-joined b (p ∷ (q ∷ ps)) h a =
     split-part b p (join b (q ∷ ps)) (and-left (lacks b p) (allLack b (q ∷ ps)) a) ∙
     ap (λ r. p ∷ r) (split-joined b (q ∷ ps) (omega arith) (and-right (lacks b p) (allLack b (q ∷ ps)) a))
-
--- there is always a part
-first-some : (x : ℕ) (ps : List (List ℕ)) → 0 < length (toFirst x ps)
-first-some x [] = omega arith
-first-some x (p ∷ ps) = omega arith
-
-pub split-some : (b : ℕ) (l : List ℕ) → 0 < length (split b l)
-unfolding split
-split-some b [] = omega arith
-split-some b (x ∷ l) = go (eqb x b) refl
-  where
-    go : (t : Bool) → eqb x b ≡ t → 0 < length (split b (x ∷ l))
-    go true e = rw (split-here b x l e) (omega arith)
-    go false e = rw (split-on b x l e) (first-some x (split b l))
 
 join-none : (b : ℕ) (ps : List (List ℕ)) → 0 < length ps → join b ([] ∷ ps) ≡ b ∷ join b ps
 unfolding join
@@ -199,11 +186,6 @@ closed-length m (l ∷ ls) a =
     rw (length-append l (lineFeed ∷ closed ls)) (omega (arith, a .0, closed-length m ls (a .1)))
 
 -- equal byte by byte
-pub same-refl : (w : List ℕ) → same w w ≡ true
-unfolding same
-same-refl [] = refl
-same-refl (x ∷ w) = and-true (eqb x x) (same w w) (eq-eqb x x refl) (same-refl w)
-
 pub same-eq : (v w : List ℕ) → same v w ≡ true → v ≡ w
 unfolding same
 same-eq [] [] e = refl

@@ -24,7 +24,7 @@ use Rattle.lines.specs.declared.EventLine.the-variants.{Of, Another}
 use Rattle.lines.specs.Words.{releaseLetter, tickLetter}
 use Rattle.lines.specs.EventLine.{releaseForm, tickForm, eventSaid, eventLine}
 
--- a letter, a tab and a number
+-- a letter, R or T, a tab and a number
 record Formed (l : List ℕ) : Type 0 where
   letter : ℕ
   number : List ℕ
@@ -32,6 +32,7 @@ record Formed (l : List ℕ) : Type 0 where
   known : (letter ≡ 82) ⊎ (letter ≡ 84)
   numeric : isNumber number ≡ true
 
+-- a line is its two fields with the tab between them
 two-fields : (letter : ℕ) (fs : List (List ℕ)) → length fs ≡ 2 → same (getD fs 0 []) (letter ∷ []) ≡ true →
     join tab fs ≡ letter ∷ (tab ∷ getD fs 1 [])
 unfolding join
@@ -41,13 +42,13 @@ two-fields letter (f ∷ (g ∷ [])) e s = rw (same-eq f (letter ∷ []) s)
 two-fields letter (f ∷ (g ∷ (h ∷ fs))) e s = absurd (omega arith)
 
 -- the first three tests of both forms
-abbrev tests : List ℕ → ℕ → List Bool → Type 0
-tests l letter bs =
+abbrev Tested : List ℕ → ℕ → List Bool → Type 0
+Tested l letter bs =
     (getD bs 0 true ≡ eqb (length (split tab l)) 2) ×
     (getD bs 1 true ≡ same (getD (split tab l) 0 []) (letter ∷ [])) ×
     (getD bs 2 true ≡ isNumber (getD (split tab l) 1 []))
 
-formed : (l : List ℕ) (letter : ℕ) → (letter ≡ 82) ⊎ (letter ≡ 84) → (bs : List Bool) → tests l letter bs → every bs ≡ true → Formed l
+formed : (l : List ℕ) (letter : ℕ) → (letter ≡ 82) ⊎ (letter ≡ 84) → (bs : List Bool) → Tested l letter bs → every bs ≡ true → Formed l
 formed l letter w bs t e =
     record {
       letter = letter;
@@ -61,6 +62,7 @@ formed l letter w bs t e =
       numeric = sym (t .2) ∙ every-at bs e 2;
     }
 
+-- a line that is not of this form is another line
 not-event : (l : List ℕ) → (Formed l → ⊥) → Another ≡ eventLine l
 unfolding eventLine eventSaid releaseForm tickForm releaseLetter tickLetter
 not-event l h =
@@ -115,6 +117,7 @@ pub record Found (l : List ℕ) (letter v : ℕ) : Type 0 where
   pub parted : getD l 1 0 ≡ tab
   pub number : readNumber (drop 2 l) ≡ Value v
 
+-- its fields are the letter and the number: neither has a tab
 found-fields : (l : List ℕ) (letter v : ℕ) → Found l letter v → lacks tab (letter ∷ []) ≡ true →
     split tab l ≡ (letter ∷ []) ∷ (drop 2 l ∷ [])
 found-fields [] letter v f h = absurd (omega (arith, f .long))

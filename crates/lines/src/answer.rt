@@ -119,12 +119,12 @@ pub fn put_answer(event: Event, answer: Answer, room: &mut [u8], at: usize) -> u
 {
     match event {
         Event::Release(k) => {
-            let a = put_all(b"R", room, at);
+            let a = put_byte(b'R', room, at);
             let b = put_field(k as u64, room, a);
             put_outcome(answer, room, b)
         }
         Event::Tick(_) => {
-            let a = put_all(b"T", room, at);
+            let a = put_byte(b'T', room, at);
             put_outcome(answer, room, a)
         }
     }
