@@ -16,7 +16,7 @@ use Rattle.verdict.specs.Verdict.{verdictOf}
 use Rattle.run.specs.declared.Event.{Event}
 use Rattle.run.specs.declared.Event.the-variants.{Release, Tick}
 use Rattle.run.specs.Release.{freshRun}
-use Rattle.promises.specs.Example.{example}
+use Rattle.run.specs.Example.{example}
 use Rattle.promises.specs.Bounds.{TakenTick, takenTicks, inRow, charges, largestCapacity, normal, wholePeriod, waitsUntil}
 use Rattle.promises.proofs.Opened.{opened}
 use Rattle.promises.proofs.Bounds.{first-bound, second-bound}
