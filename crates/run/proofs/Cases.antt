@@ -60,7 +60,7 @@ turns (Released k ∷ rest) = turns rest
 turns (Ticked a ∷ rest) = a .turn ∷ turns rest
 turns (No why ∷ rest) = turns rest
 
--- two timed servers and two tasks, the higher in row 1 each time
+-- Two timed servers of period 4 and two tasks, the higher in row 1 each time. Row 0 has capacity 1, row 1 has 2.
 unfoldable pub crossed : Table
 crossed =
     tableOf
@@ -84,10 +84,9 @@ pub eleven-ticks : map (elapsedAt (stateAfter (replicate 11 (Tick false)))) (0 �
 unfolding computed
 eleven-ticks = refl
 
--- Steps 4 and 5 without a job: server 1 is charged its 5 ticks, server 2 its 8, and then nobody until tick 20, where
--- server 1's period of 20 is over. The event server has no waiting job and is not able.
-pub without-jobs : turns (told (replicate 21 (Tick false))) ≡
-    replicate 5 (Empty 1) ++ (replicate 8 (Empty 2) ++ (replicate 7 Idle ++ (Empty 1 ∷ [])))
+-- Steps 4 and 5 without a job: row 1 is charged its 2 ticks, row 0 its 1, then nobody, and at tick 4 a period is over
+pub without-jobs : turns (answers (freshRun crossed) (replicate 5 (Tick false))) ≡
+    Empty 1 ∷ Empty 1 ∷ Empty 0 ∷ Idle ∷ Empty 1 ∷ []
 unfolding computed
 without-jobs = refl
 
@@ -249,6 +248,11 @@ pub no-13-beside : map (λ s. noIn s (Tick false))
     ∷ []) ≡ replicate 7 0
 unfolding computed
 no-13-beside = refl
+
+-- "state as it was": a job of task 1 waits, and then come a release and a tick that are refused
+pub as-it-was : stateAfter (Release 1 ∷ Release 3 ∷ Tick true ∷ []) ≡ stateAfter (Release 1 ∷ [])
+unfolding computed
+as-it-was = refl
 
 -- "Others: 13 first; release 6, 7, 8, 10; tick 9, 10": of two reasons the first is told
 pub first-told :
