@@ -22,7 +22,8 @@ use Rattle.lines.specs.Words.{releaseLetter, tickLetter, anotherLetter, okWord,
 use Rattle.lines.specs.EventLine.{releaseForm, tickForm as tickLineForm, eventSaid, eventLine, closedLines, eventLines}
 use Rattle.lines.specs.AnswerLine.{outcome, answerFields, anotherFields, refusedFields}
 use Rattle.lines.specs.Night.{answerLines, nightLines, night}
-use Rattle.promises.specs.Example.{example, two}
+use Rattle.run.specs.Example.{example}
+use Rattle.promises.specs.Example.{two}
 
 unfoldable pub opened : Unit {0}
 unfolding every least up allBelow anyBelow sumBelow highest anew areDigits numberForm isNumber worthFrom digitsIn digits split join closed same tableOf tableKeeps keeps serverKeeps taskKeeps taskFits differ laterEqual firstPair tickWord serverWord taskWord eventWord timedWord loWord miWord hiWord tickForm serverForm taskForm lineOf readLine placed serverBounds taskBounds bounds serverWhole wholes taskFault fault judgeLine grown compared ended readFrom read shown verdictOf responseAt meets interference waits someWaits sound soundState soundServer soundTask soundFront soundLast soundCounts startOf releaseOf judge step1 drops discards step2 step3 step4 settle able highestAble highestTask choose advance tickTaken tickOf after answers releaseLetter tickLetter anotherLetter okWord noWord runWord emptyWord idleWord doneWord cutWord dash tableWord modeWord releaseForm tickLineForm eventSaid eventLine closedLines eventLines outcome answerFields anotherFields refusedFields answerLines nightLines night example two

@@ -1,18 +1,13 @@
--- The table of document 01's example, as text and as rows, and the two-row tables of its marked figures.
+-- The table of document 01's example as text, and the two-row tables of its marked figures.
 use mathlib.Core.List.{List, [], _∷_}
 use Prim.Native.Nat.{ℕ}
 use Prim.Native.String.{String}
-use Rattle.units.specs.declared.Ticks.{Ticks}
-use Rattle.units.specs.declared.Micros.{Micros}
 use Rattle.table.specs.declared.Kind.{Kind}
-use Rattle.table.specs.declared.Kind.the-variants.{Event, Timed}
-use Rattle.table.specs.declared.Level.{Level}
-use Rattle.table.specs.declared.Level.the-variants.{LO, MI, HI}
-use Rattle.table.specs.declared.ByMode.{ByMode}
-use Rattle.table.specs.declared.Server.{Server}
-use Rattle.table.specs.declared.Task.{Task}
+use Rattle.table.specs.declared.Kind.the-variants.{Timed}
+use Rattle.table.specs.declared.Level.the-variants.{HI}
 use Rattle.table.specs.declared.Table.{Table}
-use Rattle.table.specs.Rows.{Rows, tableOf}
+use Rattle.table.specs.Rows.{tableOf}
+use Rattle.run.specs.Example.{byMode, server, task, rows}
 
 abbrev pub exampleText : List String
 exampleText =
@@ -24,27 +19,6 @@ exampleText =
     ∷ "task\t1\t1\t40\tMI\t3000\t4000\t4000"
     ∷ "task\t2\t2\t10\tLO\t2000\t2000\t2000"
     ∷ []
-
-abbrev pub byMode : ℕ → ℕ → ℕ → ByMode
-byMode a b c = record { n = record { 0 = a }; d1 = record { 0 = b }; d2 = record { 0 = c } }
-
-abbrev pub server : ℕ → Kind → ℕ → ℕ → ByMode → Server
-server partition kind priority period capacity =
-    record { partition = partition; kind = kind; priority = priority; period = record { 0 = period }; capacity = capacity }
-
-abbrev pub task : ℕ → ℕ → ℕ → Level → ByMode → Task
-task home degraded priority level limit =
-    record { home = home; degraded = degraded; priority = priority; level = level; limit = limit }
-
-abbrev pub rows : List Server → List Task → Rows
-rows ss ks = record { tick = record { 0 = 1000 }; servers = ss; tasks = ks }
-
-unfoldable pub example : Table
-example =
-    tableOf
-    (rows
-    (server 0 Event 30 10 (byMode 2 0 0) ∷ server 0 Timed 20 20 (byMode 5 7 7) ∷ server 1 Timed 10 40 (byMode 8 8 4) ∷ [])
-    (task 0 1 50 HI (byMode 1 2 3) ∷ task 1 1 40 MI (byMode 3 4 4) ∷ task 2 2 10 LO (byMode 2 2 2) ∷ []))
 
 -- "two timed servers", "event .. above timed ..": the higher is row 0, and all modes have one capacity
 unfoldable pub two : Kind → ℕ → ℕ → ℕ → ℕ → Table

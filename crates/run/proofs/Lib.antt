@@ -1,3 +1,4 @@
+pub mod Cases
 pub mod Taken
 pub mod Shape
 pub mod Tick

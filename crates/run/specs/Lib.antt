@@ -5,3 +5,4 @@ pub mod Release
 pub mod Tick
 pub mod Events
 pub mod Count
+pub mod Example
