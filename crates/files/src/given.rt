@@ -32,7 +32,7 @@ pub fn take_table(fd: i32) -> Given {
     let mut buf = [0u8; 16385];
     let got = crate::take_whole(fd, &mut buf);
     let n = got.len;
-    let read = text::read_table(&buf[..n]);
+    let read = reader::read_table(&buf[..n]);
     let table = read.table;
     let answer = read.answer;
     if !got.whole {

@@ -5,7 +5,7 @@ use text::Writing;
 
 fn write_text(t: Table) {
     let mut room = [0u8; 16384];
-    let w = text::write::write_table(t, &mut room);
+    let w = writer::write_table(t, &mut room);
     match w {
         Writing::Written(n) => {
             files::write_first(&room, n);

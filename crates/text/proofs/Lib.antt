@@ -4,9 +4,3 @@ pub mod Kept
 pub mod AllLines
 pub mod Allowed
 pub mod RoundTrip
-pub mod Written
-pub mod Said
-pub mod RoundedUp
-pub mod Judging
-pub mod Growing
-pub mod Whole

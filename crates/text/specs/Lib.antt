@@ -3,4 +3,3 @@ pub mod Line
 pub mod Judge
 pub mod Read
 pub mod Write
-pub mod Ready
