@@ -1,33 +1,31 @@
 -- A line is judged test by test: the first that fails decides. Each law is one way through the judgement; the last ones
--- read a line that is kept backwards. Assumes nothing.
+-- say what the bounds mean for the row. Assumes nothing.
 use mathlib.Core.Path.{_≡_, refl}
-use mathlib.Core.Bool.{Bool, true, false}
+use mathlib.Core.Bool.{true, false}
 use mathlib.Core.List.{List}
-use Prim.Native.Nat.{ℕ, _*_, _/_, _≤_, _<_}
+use Prim.Native.Nat.{ℕ, _/_, _≤_, _<_}
 use native.Mathlib.Omega.{arith}
-use lib.Dec.{ltb}
 use lib.ListN.{length, getD, take}
 use lib.Seq.{length-take-le, getD-take}
-use borrow.Author.Tests.{lt-ltb, le-ltb, ltb-true, leb-true, eq-eqb, ne-eqb}
-use Rattle.laws.specs.Choice.{unless_say_else_, every, within}
+use borrow.Author.Tests.{lt-ltb, le-ltb, eq-eqb, ne-eqb}
+use Rattle.laws.specs.Choice.{every, within}
 use Rattle.laws.specs.RoundUp.{up}
-use Rattle.laws.proofs.Choice.{and-left, and-right, within-high, every-at}
+use Rattle.laws.proofs.Choice.{within-high, every-at}
 use Rattle.units.specs.declared.Micros.{Micros}
 use Rattle.table.specs.declared.Server.{Server}
 use Rattle.table.specs.declared.Task.{Task}
-use Rattle.table.specs.declared.Refusal.{Refusal}
 use Rattle.table.specs.declared.Refusal.the-variants.{Malformed, OutOfBounds, NotWhole, AbsentRow, OtherPartition, NotTimed, OtherServer, Falling}
 use Rattle.table.specs.Rows.{Rows, noRows, noServer, isTimed}
-use Rattle.table.specs.Rules.{taskKeeps, rowsThere, rising}
+use Rattle.table.specs.Rules.{taskKeeps, rising}
 use Rattle.table.specs.Parts.{staysHome}
 use Rattle.text.specs.declared.ServerLine.{ServerLine}
 use Rattle.text.specs.declared.TaskLine.{TaskLine}
-use Rattle.text.specs.declared.Line.{Line}
 use Rattle.text.specs.declared.Line.the-variants.{OfTick, OfServer, OfTask, Malformed as MalformedLine}
 use Rattle.text.specs.declared.Judged.{Judged}
 use Rattle.text.specs.declared.Judged.the-variants.{Kept, Broken}
 use Rattle.text.specs.Judge.{isNil, placed, serverBounds, taskBounds, bounds, serverWhole, wholes, taskOf, taskFault, fault, judge}
 use Rattle.reader.specs.Inner.{rowFault}
+use Rattle.text.proofs.Bounds.{server-within}
 use Rattle.reader.proofs.RoundedUp.{ticks-few}
 
 -- a `tick` line: its number and its time alone
@@ -142,31 +140,8 @@ module _ (k : Task) (home degraded : Server) where
   unfolding rowFault
   fault-none e f g h = rw (eq-eqb (degraded .partition) (home .partition) e, f, g, h)
 
--- Backwards: a line that is kept passed every test.
-passed : (b : Bool) (why : Refusal) (r : Judged) → (unless b say Broken why else r) ≡ Kept → (b ≡ true) × (r ≡ Kept)
-passed true why r e = (refl, e)
-passed false why r e = let z : _≡_ {A = ℕ} 0 1 = cc in absurd (omega arith)
-
-pub record Keeps (n : ℕ) (a : Rows) (l : Line) : Type 0 where
-  pub stands : placed n a l ≡ true
-  pub within : every (bounds a l) ≡ true
-  pub fits : fault a l ≡ Kept
-
-pub kept : (n : ℕ) (a : Rows) (l : Line) → judge n a l ≡ Kept → Keeps n a l
-unfolding judge
-kept n a l e =
-    let p = passed (placed n a l) Malformed _ e in
-    let q = passed (every (bounds a l)) OutOfBounds _ (p .1) in
-    let r = passed (every (wholes a l)) NotWhole _ (q .1) in
-    record { stands = p .0; within = q .0; fits = r .1 }
-
-pub kept-rows : (ss : List Server) (k : Task) → taskFault ss k ≡ Kept → rowsThere ss k ≡ true
-unfolding taskFault
-kept-rows ss k e = passed (rowsThere ss k) AbsentRow _ e .0
-
--- what the bounds say of a server's numbers, and of a task's
-pub record ServerFits (m t : ℕ) (s : ServerLine) : Type 0 where
-  pub room : m < 32
+-- what the bounds say of the numbers of a row, in ticks
+pub record ServerFits (t : ℕ) (s : ServerLine) : Type 0 where
   pub partition : s .partition ≤ 15
   pub priority : s .priority ≤ 255
   pub period : s .period .0 / t ≤ 1000000
@@ -174,19 +149,16 @@ pub record ServerFits (m t : ℕ) (s : ServerLine) : Type 0 where
   pub d1 : s .capacity .d1 .0 / t ≤ 1000000
   pub d2 : s .capacity .d2 .0 / t ≤ 1000000
 
-pub server-fits : (m t : ℕ) (s : ServerLine) → 0 < t → every (serverBounds m t s) ≡ true → ServerFits m t s
-unfolding serverBounds
+pub server-fits : (m t : ℕ) (s : ServerLine) → 0 < t → every (serverBounds m t s) ≡ true → ServerFits t s
 server-fits m t s h e =
-    let b = every-at (serverBounds m t s) e in
-    let p = within-high t (1000000 * t) (s .period .0) (b 3) in
+    let w = server-within m t s e in
     record {
-      room = ltb-true m 32 (b 0);
-      partition = within-high 0 15 (s .partition) (b 1);
-      priority = within-high 1 255 (s .priority) (b 2);
-      period = ticks-few (s .period .0) t h p;
-      n = ticks-few (s .capacity .n .0) t h (omega (arith, leb-true (s .capacity .n .0) (s .period .0) (b 4)));
-      d1 = ticks-few (s .capacity .d1 .0) t h (omega (arith, leb-true (s .capacity .d1 .0) (s .period .0) (b 5)));
-      d2 = ticks-few (s .capacity .d2 .0) t h (omega (arith, leb-true (s .capacity .d2 .0) (s .period .0) (b 6)));
+      partition = w .partition;
+      priority = w .priority-high;
+      period = ticks-few (s .period .0) t h (w .period-high);
+      n = ticks-few (s .capacity .n .0) t h (omega (arith, w .period-high, w .n));
+      d1 = ticks-few (s .capacity .d1 .0) t h (omega (arith, w .period-high, w .d1));
+      d2 = ticks-few (s .capacity .d2 .0) t h (omega (arith, w .period-high, w .d2));
     }
 
 pub record TaskFits (t : ℕ) (k : TaskLine) : Type 0 where
@@ -205,19 +177,3 @@ task-fits t k e =
       d1 = within-high 1 100000 (up (k .limit .d1 .0) t) (b 2);
       d2 = within-high 1 100000 (up (k .limit .d2 .0) t) (b 3);
     }
-
--- the bounds of a task are its room and table's own rule
-pub task-room : (m t : ℕ) (k : TaskLine) → every (taskBounds m t k) ≡ true → m < 64
-unfolding taskBounds every
-task-room m t k e = ltb-true m 64 (and-left (ltb m 64) (every (taskKeeps (taskOf t k))) e)
-
-pub task-keeps : (m t : ℕ) (k : TaskLine) → every (taskBounds m t k) ≡ true → every (taskKeeps (taskOf t k)) ≡ true
-unfolding taskBounds every
-task-keeps m t k e = and-right (ltb m 64) (every (taskKeeps (taskOf t k))) e
-
-pub there-home : (ss : List Server) (k : Task) → rowsThere ss k ≡ true → k .home < length ss
-there-home ss k e = ltb-true (k .home) (length ss) (and-left (ltb (k .home) (length ss)) (ltb (k .degraded) (length ss)) e)
-
-pub there-degraded : (ss : List Server) (k : Task) → rowsThere ss k ≡ true → k .degraded < length ss
-there-degraded ss k e =
-    ltb-true (k .degraded) (length ss) (and-right (ltb (k .home) (length ss)) (ltb (k .degraded) (length ss)) e)

@@ -1,17 +1,14 @@
 -- The round-up as code finds it: the quotient where nothing is left over, else one more. Assumes nothing.
-use mathlib.Core.Path.{_≡_, refl}
+use mathlib.Core.Path.{_≡_, refl, sym, ap, _∙_}
 use Prim.Native.Nat.{ℕ, zero, suc, _+_, _*_, _/_, _%_, _≤_, _<_}
 use native.Mathlib.Omega.{arith}
-use native.Mathlib.Nat.{div-add-mod', mod-lt, le-of-mul-le-mul-right, mul-le-mul-left, div-lt-iff-lt-mul}
+use native.Mathlib.Nat.{div-add-mod', mod-lt, mul-le-mul-left, div-lt-iff-lt-mul}
 use Rattle.laws.specs.RoundUp.{up}
-use Rattle.laws.proofs.RoundUp.{up-le, le-up, lt-up}
+use Rattle.laws.proofs.RoundUp.{up-le, lt-up}
+use Rattle.text.proofs.Ticks.{up-times, whole-div}
 
 pub up-even : (u t : ℕ) → 0 < t → u % t ≡ 0 → u / t ≡ up u t
-up-even u t h e =
-    let d = div-add-mod' u t in
-    let a : up u t ≤ u / t = up-le u t (u / t) h (omega arith) in
-    let b : u / t ≤ up u t = le-of-mul-le-mul-right {m = u / t} {n = up u t} {k = t} (omega (arith, le-up u t h)) h in
-    omega arith
+up-even u t h e = sym (up-times (u / t) t h) ∙ ap (λ x. up x t) (whole-div u t e)
 
 pub up-odd : (u t : ℕ) → 0 < t → (u % t ≡ 0 → ⊥) → u / t + 1 ≡ up u t
 up-odd u t h e = go (u % t) refl e

@@ -25,7 +25,10 @@ use Rattle.text.specs.Line.{readLine}
 use Rattle.text.specs.Judge.{isNil, judge, grown}
 use Rattle.text.specs.Read.{taken, refused, equal, pairSaid, equalServers, equalTasks, compared, ended, judged, readFrom, read, shown}
 use Rattle.reader.specs.Inner.{Ready}
-use Rattle.reader.proofs.Growing.{rows-back, ready-first, some-of}
+use Rattle.text.proofs.Kept.{not-nil}
+use Rattle.text.proofs.Allowed.{from-line}
+use Rattle.text.proofs.RoundTrip.{table-rows}
+use Rattle.reader.proofs.Growing.{ready-first}
 
 -- rows of equal priority: a column of the rows in use
 take-map : {A : Type 0} (f : A → ℕ) (n : ℕ) (xs : List A) → take n (map f xs) ≡ map f (take n xs)
@@ -64,10 +67,6 @@ pub servers-differ : (a : Rows) (m : ℕ) → length (a .servers) ≡ m → Diff
 unfolding compared
 servers-differ a m c e = rw (← e, c)
 
-pub whole-count : (t : Table) → t ≡ tableOf (rowsOf t) → length (rowsOf t .servers) ≡ t .nservers
-unfolding tableOf
-whole-count t e = sym (ap (λ (x : Table). x .nservers) e)
-
 pub taken-shown : (t : Table) → t ≡ tableOf (rowsOf t) →
     _≡_ {A = Read} (record { answer = Taken; table = t }) (shown (taken (rowsOf t)))
 unfolding shown
@@ -95,15 +94,9 @@ pub starts : (t : Table) → t ≡ tableOf noRows → Ready 1 t
 starts t e = subst (Ready 1) (sym e) ready-first
 
 pub starts-from : (t : Table) (ls : List (List ℕ)) → t ≡ tableOf noRows → readFrom 1 noRows ls ≡ readFrom 1 (rowsOf t) ls
-starts-from t ls e = ap (λ x. readFrom 1 x ls) (sym (ap rowsOf e ∙ rows-back noRows))
+starts-from t ls e = ap (λ x. readFrom 1 x ls) (sym (ap rowsOf e ∙ table-rows noRows))
 
 -- line n begins at `from`, and the search for its line feed answers e
-line-then : (n : ℕ) (a : Rows) (l : List ℕ) (ls : List (List ℕ)) → 0 < length ls →
-    readFrom n a (l ∷ ls) ≡ judged n (judge n a (readLine l)) (readFrom (n + 1) (grown a (readLine l)) ls)
-unfolding readFrom
-line-then n a l [] h = absurd (omega arith)
-line-then n a l (m ∷ ms) h = refl
-
 module _ (n : ℕ) (a : Rows) (text : List ℕ) (from e : ℕ) (found : Finds lineFeed text from e) where
   pub from-unclosed : length text ≤ e → from < length text →
       refused Malformed n ≡ readFrom n a (split lineFeed (drop from text))
@@ -111,7 +104,7 @@ module _ (n : ℕ) (a : Rows) (text : List ℕ) (from e : ℕ) (found : Finds li
   from-unclosed h k =
       rw (
         last-at lineFeed text from e found (omega arith) h,
-        some-of (drop from text) (length text - from) (length-drop from text) (omega arith),
+        not-nil (drop from text) (omega (arith, length-drop from text)),
       )
 
   from-closed : (l : Line) → e < length text → l ≡ readLine (take (e - from) (drop from text)) →
@@ -120,7 +113,7 @@ module _ (n : ℕ) (a : Rows) (text : List ℕ) (from e : ℕ) (found : Finds li
   from-closed l h q =
       rw (
         cut-at lineFeed text from e found h,
-        line-then
+        from-line
             n
             a
             (take (e - from) (drop from text))
@@ -139,7 +132,7 @@ module _ (n : ℕ) (a : Rows) (text : List ℕ) (from e : ℕ) (found : Finds li
       readFrom (n + 1) (rowsOf t) (split lineFeed (drop (e + 1) text))
   from-kept l t h q j g =
       sym (rw (j) at (from-closed l h q))
-      ∙ ap (λ x. readFrom (n + 1) x (split lineFeed (drop (e + 1) text))) (sym (ap rowsOf g ∙ rows-back (grown a l)))
+      ∙ ap (λ x. readFrom (n + 1) x (split lineFeed (drop (e + 1) text))) (sym (ap rowsOf g ∙ table-rows (grown a l)))
 
 pub from-end : (n : ℕ) (a : Rows) (text : List ℕ) (from : ℕ) → length text ≤ from →
     ended n a ≡ readFrom n a (split lineFeed (drop from text))

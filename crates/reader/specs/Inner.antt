@@ -1,5 +1,5 @@
--- What the reader's inner functions ask of the table that is being read. The reader gives it to each; nobody else calls
--- them.
+-- Only contracts of inner functions cite this file; a buyer need not read it. It says what the reader's inner functions
+-- ask of the table that is being read. The reader gives it to each; nobody else calls them.
 use mathlib.Core.Path.{_≡_}
 use mathlib.Core.Bool.{true}
 use Prim.Native.Nat.{ℕ, _≤_, _<_}
@@ -10,13 +10,13 @@ use Rattle.table.specs.declared.Task.{Task}
 use Rattle.table.specs.declared.Table.{Table}
 use Rattle.table.specs.declared.Refusal.the-variants.{OtherPartition, NotTimed, OtherServer, Falling}
 use Rattle.table.specs.Rows.{isTimed, rowsOf, tableOf}
-use Rattle.table.specs.Rules.{tickKeeps, rowsThere, rising}
+use Rattle.table.specs.Rules.{tickKeeps, rising}
 use Rattle.table.specs.Parts.{staysHome}
 use Rattle.text.specs.declared.Judged.{Judged}
 use Rattle.text.specs.declared.Judged.the-variants.{Kept, Broken}
 use Rattle.text.specs.declared.Line.{Line}
 use Rattle.text.specs.declared.Line.the-variants.{OfTick, OfServer, OfTask, Malformed}
-use Rattle.text.specs.Judge.{serverBounds, taskBounds, taskOf}
+use Rattle.text.specs.Judge.{serverBounds, taskBounds}
 
 -- Before line n: the table holds the rows above it and nothing else. All lines but the first stand below a `tick` line.
 pub record Ready (n : ℕ) (t : Table) : Type 0 where
@@ -34,9 +34,9 @@ Grows t (OfServer s) =
 Grows t (OfTask k) =
     (t ≡ tableOf (rowsOf t))
     × (0 < t .tick .0)
-    × (t .nservers ≤ 32)
     × (every (taskBounds (t .ntasks) (t .tick .0) k) ≡ true)
-    × (rowsThere (rowsOf t .servers) (taskOf (t .tick .0) k) ≡ true)
+    × (k .home < 32)
+    × (k .degraded < 32)
 Grows t Malformed = t ≡ tableOf (rowsOf t)
 
 -- 4, for a task as it is rounded up, once its home and its degraded server are there

@@ -17,16 +17,18 @@ use Rattle.decimal.proofs.Parts.{AllUpTo, closed-length, lacks, allLack, split-
 use Rattle.table.specs.declared.Table.{Table}
 use Rattle.table.specs.Rows.{Rows, rowsOf, tableOf, noServer, noTask}
 use Rattle.table.specs.Rules.{keeps, tableKeeps}
+use Rattle.table.proofs.Rules.{rows-keep as table-rows-keep}
 use Rattle.text.specs.declared.Line.{Line}
 use Rattle.text.specs.declared.Line.the-variants.{OfTick, OfServer, OfTask, Malformed}
 use Rattle.text.specs.declared.Reading.the-variants.{Taken}
 use Rattle.text.specs.Line.{readLine, writeLine, lineOf, tickForm, serverForm, taskForm}
 use Rattle.text.specs.Read.{taken, read, shown}
+use Rattle.text.specs.Allowed.{Allowed}
 use Rattle.text.specs.Write.{wrote, written, serverBack, taskBack, serverLines, taskLines, linesOf, write, taskTimesWhole, allTimesWhole, timesWhole}
 use Rattle.text.proofs.Lines.{Writable, Formed, line-lacks, read-write-line, write-read-line, line-length}
 use Rattle.text.proofs.Ticks.{rounded, whole-stays, stays-whole}
 use Rattle.text.proofs.AllLines.{AllWritable, Told, told, RowsKeep, good-keeps, keeps-rows, lines-taken, lines-grown}
-use Rattle.text.proofs.Allowed.{Allowed, allowed-taken, taken-allowed}
+use Rattle.text.proofs.Allowed.{allowed-taken, taken-allowed}
 
 -- all lines at once
 lines-lack : (xs : List Line) → allLack lineFeed (map writeLine xs) ≡ true
@@ -173,7 +175,7 @@ allowed-text text a w = (there, back)
         (whole-stay (a .tick .0) good (w .lines) (rw (w .closes) at p)) ∙ stood
 
 -- a table that holds the rows in use and nothing else
-table-rows : (a : Rows) → rowsOf (tableOf a) ≡ a
+pub table-rows : (a : Rows) → rowsOf (tableOf a) ≡ a
 unfolding tableOf
 table-rows a =
     rw (
@@ -188,13 +190,6 @@ rows-table a e =
     let p = is-within 1 32 (length (a .servers)) (k .servers-low) (k .good .servers-high) in
     let q = is-within 1 64 (length (a .tasks)) (k .tasks-low) (k .good .tasks-high) in
     rw (p, q, table-rows a) e
-
-pub table-rows-keep : (t : Table) → tableKeeps t ≡ true → keeps (rowsOf t) ≡ true
-unfolding tableKeeps
-table-rows-keep t e =
-    let n = within 1 32 (t .nservers) in
-    let m = within 1 64 (t .ntasks) in
-    and-right m (keeps (rowsOf t)) (and-right n (m && keeps (rowsOf t)) e)
 
 -- The statements to quote. `shown (read text)` is what the reader answers, and `write (rowsOf t)` is the text that the
 -- writer writes of t.

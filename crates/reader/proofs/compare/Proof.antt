@@ -6,7 +6,8 @@ use lib.ListN.{length, getD, take, length-take}
 use lib.Seq.{length-take-le}
 use Rattle.table.specs.Rows.{noServer, rowsOf}
 use Rattle.text.specs.Read.{equalServers, shown}
-use Rattle.reader.proofs.Whole.{rows-pair, pair-below, servers-equal, servers-differ, whole-count}
+use Rattle.reader.proofs.Whole.{rows-pair, pair-below, servers-equal, servers-differ}
+use Rattle.reader.proofs.Growing.{servers-count}
 use borrow.Author.Needs.{needs}
 use Rattle.reader.proofs.compare.Statement.{statement}
 use Rattle.reader.proofs.compare.Tie as tie
@@ -98,7 +99,7 @@ returns-2 c =
     (servers-differ
     (rowsOf t)
     (t .nservers)
-    (whole-count t (start .pre .0))
+    (servers-count t (start .pre .0))
     (sym (c .before .enum-told .given .1) ∙ paired (c .before .before .before)))
 
 pub compare-spec : {M : Type 1} → statement M

@@ -17,7 +17,7 @@ returns c =
     let start = c .before .before .before in
     let t = start .args .t in
     c .refuse .ensures
-    ∙ ap shown (ended-none (start .args .n) (rowsOf t) (no-task (start .args .n) t (start .pre) (omega arith)))
+    ∙ ap shown (ended-none (start .args .n) (rowsOf t) (no-task t (start .pre .whole) (omega arith)))
 
 compare-requires : tie.Need-compare-requires
 compare-requires c κs = search needs
@@ -26,7 +26,7 @@ returns-2 : tie.Need-returns-2
 returns-2 c =
     let start = c .before .before .before in
     let t = start .args .t in
-    let some = a-task (start .args .n) t (start .pre) (pos-of-ne (t .ntasks) (c .before .if1 .left)) in
+    let some = a-task t (start .pre .whole) (pos-of-ne (t .ntasks) (c .before .if1 .left)) in
     c .compare .ensures ∙ ap shown (ended-some (start .args .n) (rowsOf t) some)
 
 pub end-spec : {M : Type 1} → statement M

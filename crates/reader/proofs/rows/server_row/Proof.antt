@@ -5,7 +5,7 @@ use borrow.Author.Needs.{needs}
 use Rattle.reader.proofs.rows.server_row.Statement.{statement}
 use Rattle.reader.proofs.rows.server_row.Tie as tie
 
-holds : (c : tie.Start) → ServerFits (c .args .rows) (c .args .tick) (c .args .s)
+holds : (c : tie.Start) → ServerFits (c .args .tick) (c .args .s)
 holds c = server-fits (c .args .rows) (c .args .tick) (c .args .s) (c .pre .0) (c .pre .1)
 
 div-n : tie.Need-div-n

@@ -40,7 +40,10 @@ cast-t17 c =
     record { fits = omega (arith, holds (c .before .before .before .before .before .before .before) .priority) }
 
 returns : tie.Need-returns
-returns c = cc
+returns c =
+    let r = c .before .before .before in
+    let q = r .before in
+    rw (q .before .round-up .ensures, q .round-up2 .ensures, r .round-up3 .ensures)
 
 pub task-row-spec : {M : Type 1} → statement M
 task-row-spec =

@@ -2,17 +2,16 @@
 use Prim.Native.Nat.{_<_}
 use native.Mathlib.Omega.{arith}
 use Rattle.table.specs.Rows.{rowsOf}
-use Rattle.reader.proofs.Judging.{server-fits}
+use Rattle.text.proofs.Bounds.{server-within}
 use Rattle.reader.proofs.Growing.{put-server}
-use borrow.Author.Needs.{needs}
 use Rattle.reader.proofs.rows.with_server.Statement.{statement}
 use Rattle.reader.proofs.rows.with_server.Tie as tie
 
 room : (c : tie.Start) → c .args .t .nservers < 32
-room c = server-fits (c .args .t .nservers) (c .args .t .tick .0) (c .args .s) (c .pre .1) (c .pre .2) .room
+room c = server-within (c .args .t .nservers) (c .args .t .tick .0) (c .args .s) (c .pre .2) .room
 
 server-row-requires : tie.Need-server-row-requires
-server-row-requires c κs = search needs
+server-row-requires c κs = (c .pre .1, c .pre .2)
 
 mul-row : tie.Need-mul-row
 mul-row c = record { fits = omega (arith, room (c .before)) }

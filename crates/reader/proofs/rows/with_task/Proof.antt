@@ -1,27 +1,20 @@
 -- `reader::rows::with_task` meets its contract: the row is put behind those in use. Assumes nothing.
 use Prim.Native.Nat.{_<_}
 use native.Mathlib.Omega.{arith}
-use lib.ListN.{length-take}
 use Rattle.table.specs.Rows.{rowsOf}
-use Rattle.text.specs.Judge.{taskOf}
-use Rattle.reader.proofs.Judging.{task-room, task-keeps, there-home, there-degraded}
+use Rattle.text.proofs.Bounds.{task-within}
+use Rattle.text.proofs.Kept.{task-keeps}
 use Rattle.reader.proofs.Growing.{put-task}
 use Rattle.reader.proofs.rows.with_task.Statement.{statement}
 use Rattle.reader.proofs.rows.with_task.Tie as tie
 
 room : (c : tie.Start) → c .args .t .ntasks < 64
-room c = task-room (c .args .t .ntasks) (c .args .t .tick .0) (c .args .k) (c .pre .3)
+room c = task-within (c .args .t .ntasks) (c .args .t .tick .0) (c .args .k) (c .pre .1) (c .pre .2) .room
 
 task-row-requires : tie.Need-task-row-requires
 task-row-requires c κs =
     let t = c .args .t in
-    let k = taskOf (t .tick .0) (c .args .k) in
-    let l = length-take (t .nservers) (t .servers) in (
-      c .pre .1,
-      task-keeps (t .ntasks) (t .tick .0) (c .args .k) (c .pre .3),
-      omega (arith, there-home (rowsOf t .servers) k (c .pre .4)),
-      omega (arith, there-degraded (rowsOf t .servers) k (c .pre .4)),
-    )
+    (c .pre .1, task-keeps (t .ntasks) (t .tick .0) (c .args .k) (c .pre .2), c .pre .3, c .pre .4)
 
 mul-row : tie.Need-mul-row
 mul-row c = record { fits = omega (arith, room (c .before)) }

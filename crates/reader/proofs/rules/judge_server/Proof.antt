@@ -19,7 +19,7 @@ returns-2 c =
     (rowsOf (start .args .t))
     (start .args .s)
     (c .before .if1 .left)
-    (a-task (start .args .n) (start .args .t) (start .pre) (c .if2 .taken))
+    (a-task (start .args .t) (start .pre .whole) (c .if2 .taken))
 
 server-bounds-requires : tie.Need-server-bounds-requires
 server-bounds-requires c κs =
@@ -34,9 +34,9 @@ returns-3 c =
     (rowsOf (start .args .t))
     (start .args .s)
     (start .args .t .nservers)
-    (servers-count (start .args .n) (start .args .t) (start .pre))
+    (servers-count (start .args .t) (start .pre .whole))
     (c .before .before .before .if1 .left)
-    (no-task (start .args .n) (start .args .t) (start .pre) (c .before .before .if2 .left))
+    (no-task (start .args .t) (start .pre .whole) (c .before .before .if2 .left))
     (sym (c .before .server-bounds .ensures) ∙ not-true _ (c .if3 .taken))
 
 server-whole-requires : tie.Need-server-whole-requires
@@ -52,9 +52,9 @@ returns-4 c =
     (rowsOf (start .args .t))
     (start .args .s)
     (start .args .t .nservers)
-    (servers-count (start .args .n) (start .args .t) (start .pre))
+    (servers-count (start .args .t) (start .pre .whole))
     (c .before .before .before .before .before .if1 .left)
-    (no-task (start .args .n) (start .args .t) (start .pre) (c .before .before .before .before .if2 .left))
+    (no-task (start .args .t) (start .pre .whole) (c .before .before .before .before .if2 .left))
     (sym (c .before .before .before .server-bounds .ensures) ∙ not-false _ (c .before .before .if3 .left))
     (sym (c .before .server-whole .ensures) ∙ not-true _ (c .if4 .taken))
 
@@ -66,9 +66,9 @@ returns-5 c =
     (rowsOf (start .args .t))
     (start .args .s)
     (start .args .t .nservers)
-    (servers-count (start .args .n) (start .args .t) (start .pre))
+    (servers-count (start .args .t) (start .pre .whole))
     (c .before .before .before .before .before .if1 .left)
-    (no-task (start .args .n) (start .args .t) (start .pre) (c .before .before .before .before .if2 .left))
+    (no-task (start .args .t) (start .pre .whole) (c .before .before .before .before .if2 .left))
     (sym (c .before .before .before .server-bounds .ensures) ∙ not-false _ (c .before .before .if3 .left))
     (sym (c .before .server-whole .ensures) ∙ not-false _ (c .if4 .left))
 

@@ -4,7 +4,8 @@ use mathlib.Core.Path.{sym, _∙_}
 use native.Mathlib.Omega.{arith}
 use borrow.Author.Tests.{not-true, not-false}
 use Rattle.table.specs.Rows.{rowsOf}
-use Rattle.reader.proofs.Judging.{task-first, task-out, task-in, task-keeps}
+use Rattle.text.proofs.Kept.{task-keeps}
+use Rattle.reader.proofs.Judging.{task-first, task-out, task-in}
 use Rattle.reader.proofs.Growing.{tasks-count, no-server, a-server, tick-low, begun}
 use Rattle.reader.proofs.rules.judge_task.Statement.{statement}
 use Rattle.reader.proofs.rules.judge_task.Tie as tie
@@ -15,7 +16,7 @@ returns c =
     (c .before .args .n)
     (rowsOf (c .before .args .t))
     (c .before .args .k)
-    (no-server (c .before .args .n) (c .before .args .t) (c .before .pre) (omega arith))
+    (no-server (c .before .args .t) (c .before .pre .whole) (omega arith))
 
 task-bounds-requires : tie.Need-task-bounds-requires
 task-bounds-requires c κs =
@@ -33,8 +34,8 @@ returns-2 c =
     (rowsOf (start .args .t))
     (start .args .k)
     (start .args .t .ntasks)
-    (tasks-count (start .args .n) (start .args .t) (start .pre))
-    (a-server (start .args .n) (start .args .t) (start .pre) (c .before .before .if1 .left))
+    (tasks-count (start .args .t) (start .pre .whole))
+    (a-server (start .args .t) (start .pre .whole) (c .before .before .if1 .left))
     (sym (c .before .task-bounds .ensures) ∙ not-true _ (c .if2 .taken))
 
 task-fault-requires : tie.Need-task-fault-requires
@@ -62,8 +63,8 @@ returns-3 c =
     (rowsOf (start .args .t))
     (start .args .k)
     (start .args .t .ntasks)
-    (tasks-count (start .args .n) (start .args .t) (start .pre))
-    (a-server (start .args .n) (start .args .t) (start .pre) (c .before .before .before .before .if1 .left))
+    (tasks-count (start .args .t) (start .pre .whole))
+    (a-server (start .args .t) (start .pre .whole) (c .before .before .before .before .if1 .left))
     (c .task-fault .result)
     (sym (c .before .before .before .task-bounds .ensures) ∙ not-false _ (c .before .before .if2 .left))
     (c .task-fault .ensures)

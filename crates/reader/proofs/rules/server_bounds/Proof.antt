@@ -1,6 +1,6 @@
 -- `reader::rules::server_bounds` meets its contract: its tests are those of `serverBounds`, in their order. Assumes
 -- nothing.
-use mathlib.Core.Path.{refl}
+use mathlib.Core.Path.{refl, _∙_}
 use Rattle.text.specs.Judge.{serverBounds}
 use borrow.Author.Needs.{needs}
 use Rattle.reader.proofs.rules.server_bounds.Statement.{statement}
@@ -26,7 +26,11 @@ all-of-requires c κs = tt
 
 returns : tie.Need-returns
 unfolding serverBounds
-returns c = cc
+returns c =
+    let t = c .before .before .before .before .before .before in
+    let p = t .before in
+    c .all-of .ensures
+    ∙ rw (p .before .is-within .ensures, p .is-within2 .ensures, t .is-within3 .ensures)
 
 pub server-bounds-spec : {M : Type 1} → statement M
 server-bounds-spec =

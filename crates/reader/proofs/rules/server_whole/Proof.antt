@@ -26,7 +26,7 @@ all-of-requires c κs = tt
 
 returns : tie.Need-returns
 unfolding serverWhole
-returns c = cc
+returns c = c .all-of .ensures
 
 pub server-whole-spec : {M : Type 1} → statement M
 server-whole-spec =

@@ -1,6 +1,6 @@
 -- `reader::rules::task_bounds` meets its contract: its tests are those of `taskBounds`, in their order. Assumes
 -- nothing.
-use mathlib.Core.Path.{refl}
+use mathlib.Core.Path.{refl, _∙_}
 use Rattle.text.specs.Judge.{taskBounds}
 use Rattle.table.specs.Rules.{taskKeeps}
 use borrow.Author.Needs.{needs}
@@ -36,7 +36,23 @@ all-of-requires c κs = tt
 
 returns : tie.Need-returns
 unfolding taskBounds taskKeeps
-returns c = cc
+returns c =
+    let z = c .before .before in
+    let y = z .before in
+    let x = y .before in
+    let r = x .before in
+    let q = r .before in
+    let p = q .before in
+    c .all-of .ensures
+    ∙ rw (
+      p .before .before .is-within .ensures,
+      x .is-within2 .ensures,
+      y .is-within3 .ensures,
+      z .is-within4 .ensures,
+      p .round-up .ensures,
+      q .round-up2 .ensures,
+      r .round-up3 .ensures,
+    )
 
 pub task-bounds-spec : {M : Type 1} → statement M
 task-bounds-spec =

@@ -2,7 +2,7 @@
 -- rows.
 -- Assumes nothing.
 use mathlib.Core.Path.{ap, _∙_}
-use Prim.Native.Nat.{_≤_}
+use Prim.Native.Nat.{_≤_, _<_}
 use native.Mathlib.Omega.{arith}
 use lib.ListN.{length, getD, take}
 use lib.Seq.{length-take-le}
@@ -10,7 +10,6 @@ use Rattle.table.specs.Rows.{noServer}
 use Rattle.text.specs.Judge.{taskOf}
 use Rattle.reader.specs.Inner.{rowFault}
 use Rattle.reader.proofs.Judging.{home-absent, degraded-absent, rows-fault}
-use borrow.Author.Needs.{needs}
 use Rattle.reader.proofs.rules.task_fault.Statement.{statement}
 use Rattle.reader.proofs.rules.task_fault.Tie as tie
 
@@ -33,20 +32,30 @@ returns-2 c =
     let l = length-take-le (a .count) (a .t1) (long (start)) in
     degraded-absent (take (a .count) (a .t1)) (taskOf (a .tick) (a .k)) (omega arith) (omega arith)
 
+-- both rows are there, so below 32
+home-low : (c : tie.Else2) → c .before .before .before .before .args .k .home < 32
+home-low c = omega (arith, c .before .before .before .before .pre .0, c .before .before .if1 .left)
+
+degraded-low : (c : tie.Else2) → c .before .before .before .before .args .k .degraded < 32
+degraded-low c = omega (arith, c .before .before .before .before .pre .0, c .if2 .left)
+
 mul-h : tie.Need-mul-h
-mul-h c = search needs
+mul-h c = record { fits = omega (arith, home-low c) }
 
 array-copy-out-h : tie.Need-array-copy-out-h
-array-copy-out-h c = search needs
+array-copy-out-h c = home-low c
 
 mul-d : tie.Need-mul-d
-mul-d c = search needs
+mul-d c = record { fits = omega (arith, degraded-low (c .before)) }
 
 array-copy-out-d : tie.Need-array-copy-out-d
-array-copy-out-d c = search needs
+array-copy-out-d c = degraded-low (c .before)
 
 task-row-requires : tie.Need-task-row-requires
-task-row-requires c κs = search needs
+task-row-requires c κs =
+    let there = c .before .before in
+    let start = there .before .before .before .before in
+    (start .pre .1, start .pre .2, home-low there, degraded-low there)
 
 row-fault-requires : tie.Need-row-fault-requires
 row-fault-requires c κs = tt

@@ -1,5 +1,5 @@
 -- `reader::words::is_server` meets its contract: its tests are those of `serverForm`, in their order. Assumes nothing.
-use mathlib.Core.Path.{refl}
+use mathlib.Core.Path.{refl, _∙_}
 use Rattle.text.specs.Words.{serverWord}
 use Rattle.text.specs.Line.{serverForm}
 use Rattle.reader.proofs.words.is_server.Statement.{statement}
@@ -43,7 +43,27 @@ all-of-requires c κs = tt
 
 returns : tie.Need-returns
 unfolding serverForm serverWord
-returns c = cc
+returns c =
+    let z = c .before .before in
+    let y = z .before in
+    let x = y .before in
+    let t = x .before in
+    let p = t .before in
+    let k = p .before in
+    let h = k .before in
+    let w = h .before in
+    c .all-of .ensures
+    ∙ rw (
+      w .before .before .fields .ensures,
+      w .word-in .ensures,
+      h .has-number .ensures,
+      k .has-kind .ensures,
+      p .has-number2 .ensures,
+      t .has-number3 .ensures,
+      x .has-number4 .ensures,
+      y .has-number5 .ensures,
+      z .has-number6 .ensures,
+    )
 
 pub is-server-spec : {M : Type 1} → statement M
 is-server-spec =

@@ -1,5 +1,5 @@
 -- `reader::words::is_task` meets its contract: its tests are those of `taskForm`, in their order. Assumes nothing.
-use mathlib.Core.Path.{refl}
+use mathlib.Core.Path.{refl, _∙_}
 use Rattle.text.specs.Words.{taskWord}
 use Rattle.text.specs.Line.{taskForm}
 use Rattle.reader.proofs.words.is_task.Statement.{statement}
@@ -43,7 +43,27 @@ all-of-requires c κs = tt
 
 returns : tie.Need-returns
 unfolding taskForm taskWord
-returns c = cc
+returns c =
+    let z = c .before .before in
+    let y = z .before in
+    let x = y .before in
+    let v = x .before in
+    let p = v .before in
+    let d = p .before in
+    let h = d .before in
+    let w = h .before in
+    c .all-of .ensures
+    ∙ rw (
+      w .before .before .fields .ensures,
+      w .word-in .ensures,
+      h .has-number .ensures,
+      d .has-number2 .ensures,
+      p .has-number3 .ensures,
+      v .has-level .ensures,
+      x .has-number4 .ensures,
+      y .has-number5 .ensures,
+      z .has-number6 .ensures,
+    )
 
 pub is-task-spec : {M : Type 1} → statement M
 is-task-spec =

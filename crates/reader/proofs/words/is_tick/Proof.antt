@@ -1,5 +1,5 @@
 -- `reader::words::is_tick` meets its contract: its tests are those of `tickForm`, in their order. Assumes nothing.
-use mathlib.Core.Path.{refl}
+use mathlib.Core.Path.{refl, _∙_}
 use Rattle.text.specs.Words.{tickWord}
 use Rattle.text.specs.Line.{tickForm}
 use Rattle.reader.proofs.words.is_tick.Statement.{statement}
@@ -25,7 +25,10 @@ all-of-requires c κs = tt
 
 returns : tie.Need-returns
 unfolding tickForm tickWord
-returns c = cc
+returns c =
+    let n = c .before .before in
+    let w = n .before in
+    c .all-of .ensures ∙ rw (w .before .before .fields .ensures, w .word-in .ensures, n .has-number .ensures)
 
 pub is-tick-spec : {M : Type 1} → statement M
 is-tick-spec =

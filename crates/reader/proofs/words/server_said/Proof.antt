@@ -41,7 +41,21 @@ unfolding serverForm
 worth-in-requires-6 c κs = form (c .before .before .before .before .before .before .before) 8
 
 returns : tie.Need-returns
-returns c = cc
+returns c =
+    let y = c .before in
+    let x = y .before in
+    let t = x .before in
+    let p = t .before in
+    let k = p .before in
+    rw (
+      k .before .worth-in .ensures,
+      k .kind-in .ensures,
+      p .worth-in2 .ensures,
+      t .worth-in3 .ensures,
+      x .worth-in4 .ensures,
+      y .worth-in5 .ensures,
+      c .worth-in6 .ensures,
+    )
 
 pub server-said-spec : {M : Type 1} → statement M
 server-said-spec =

@@ -41,7 +41,21 @@ unfolding taskForm
 worth-in-requires-6 c κs = form (c .before .before .before .before .before .before .before) 8
 
 returns : tie.Need-returns
-returns c = cc
+returns c =
+    let y = c .before in
+    let x = y .before in
+    let v = x .before in
+    let p = v .before in
+    let d = p .before in
+    rw (
+      d .before .worth-in .ensures,
+      d .worth-in2 .ensures,
+      p .worth-in3 .ensures,
+      v .level-in .ensures,
+      x .worth-in4 .ensures,
+      y .worth-in5 .ensures,
+      c .worth-in6 .ensures,
+    )
 
 pub task-said-spec : {M : Type 1} → statement M
 task-said-spec =
