@@ -1,5 +1,5 @@
 // Whether a line keeps the rules where it stands. (01, Numbers for no: "line by line 1, 2, 3, 4".) The rules are lists of
-// tests in specs/Judge.antt, judged in 64 bits as the line has them: only a line that keeps them becomes a row.
+// tests in crate text, specs/Judge.antt, judged in 64 bits as the line has them: only a line that keeps them becomes a row.
 
 use crate::rows;
 use table::Refusal;
@@ -18,9 +18,9 @@ ghost use mathlib.Core.Bool.{true};
 ghost use Prim.Native.Nat.{_≤_, _<_};
 ghost use lib.ListN.{take};
 ghost use Rattle.laws.specs.Choice.{every};
+ghost use Rattle.table.specs.Rows.{rowsOf, noRows};
 ghost use Rattle.table.specs.Rules.{taskKeeps};
 ghost use Rattle.text.specs.declared.Line.the-variants.{OfTick, OfServer, OfTask};
-ghost use Rattle.table.specs.Rows.{rowsOf, noRows};
 ghost use Rattle.text.specs.Judge.{taskOf, serverBounds, serverWhole, taskBounds, taskFault, judge};
 ghost use Rattle.reader.specs.Inner.{Ready, rowFault};
 

@@ -1,5 +1,5 @@
 // What a line says, and whether it has the form of a `tick`, a `server` or a `task` line. (01, Tables.) The forms are
-// lists of tests in specs/Line.antt: each is lent here as that list, in its order.
+// lists of tests in crate text, specs/Line.antt: each is lent here as that list, in its order.
 
 use decimal::Number;
 use table::Kind;

@@ -26,6 +26,7 @@ use Rattle.text.specs.Allowed.{KeptFrom, grownBy}
 use Rattle.text.specs.Write.{serverBack, taskBack, serverLines, taskLines, linesOf}
 use Rattle.text.proofs.Lines.{Writable}
 use Rattle.text.proofs.Ticks.{server-there, task-there, rounded}
+use Rattle.text.proofs.Bounds.{within-tick}
 use Rattle.text.proofs.Kept.{not-nil, judge-keeps, keeps-judge, fits-fault, server-bounded, server-whole, Good, stepped, stands-first, tick-line, tick-writable}
 
 abbrev pub AllWritable : List Line → Type 0
@@ -252,10 +253,10 @@ tasks-grown t ss ks (k ∷ more) p =
     tasks-grown t ss (ks ++ (k ∷ [])) more p ∙ rw (append-assoc ks (k ∷ []) more)
 
 tick-taken : (t : Micros) → 1 ≤ t .0 → t .0 ≤ 10000 → judge 1 noRows (OfTick t) ≡ Kept
-unfolding placed bounds wholes fault every
+unfolding placed wholes fault every
 tick-taken t l h =
     keeps-judge 1 noRows (OfTick t)
-    (record { stands = refl; bounded = rw (is-within 1 10000 (t .0) l h); whole = refl; fits = refl })
+    (record { stands = refl; bounded = within-tick noRows t l h; whole = refl; fits = refl })
 
 pub lines-taken : (a : Rows) → RowsKeep a → KeptFrom 1 noRows (linesOf a)
 unfolding linesOf grown

@@ -1,8 +1,8 @@
 -- Lines that keep the rules where they stand, and the rows that they make: a line is taken exactly if its row keeps the
 -- rules of a table, so rows that keep them come of lines that do, and the other way round. Nothing here knows a byte.
 -- Assumes nothing.
-use mathlib.Core.Path.{_≡_, refl, ap}
-use mathlib.Core.Bool.{Bool, true, false, not}
+use mathlib.Core.Path.{_≡_, refl, sym, ap, _∙_}
+use mathlib.Core.Bool.{Bool, true, false}
 use mathlib.Core.List.{List, [], _∷_, _++_, append-assoc, append-nil, map-append}
 use mathlib.Core.Logic.{inl, inr}
 use Prim.Native.Nat.{ℕ, _*_, _/_, _%_, _≤_, _<_}
@@ -11,11 +11,10 @@ use native.Mathlib.Nat.{mul-le-mul-right, le-of-mul-le-mul-right, mul-mod-left}
 use lib.Dec.{leb, ltb}
 use lib.ListN.{length, getD, length-append, List·getD-append}
 use lib.Seq.{getD-append-seam}
-use borrow.Author.Tests.{eqb-true, leb-true, le-leb, ltb-true, lt-ltb}
+use borrow.Author.Tests.{eqb-true, leb-true, le-leb, ltb-true}
 use Rattle.laws.specs.Choice.{unless_say_else_, every, within}
-use Rattle.laws.specs.RoundUp.{up}
 use Rattle.laws.proofs.Choice.{clash, and-left, and-right, every-at, within-low, within-high, is-within, le-or-lt}
-use Rattle.laws.proofs.RoundUp.{le-up, div-mono}
+use Rattle.laws.proofs.RoundUp.{div-mono}
 use Rattle.units.specs.declared.Micros.{Micros}
 use Rattle.table.specs.declared.Server.{Server}
 use Rattle.table.specs.declared.Task.{Task}
@@ -31,9 +30,10 @@ use Rattle.text.specs.declared.Judged.{Judged}
 use Rattle.text.specs.declared.Judged.the-variants.{Kept, Broken}
 use Rattle.text.specs.Judge.{isNil, serverOf, taskOf, placed, serverBounds, taskBounds, bounds, whole, serverWhole, wholes, taskFault, fault, judge, grown}
 use Rattle.text.specs.Write.{serverBack, taskBack, serverLines, taskLines, linesOf}
-use Rattle.text.proofs.Lines.{Short, Writable}
+use Rattle.text.proofs.Lines.{Writable}
 use Rattle.text.proofs.Ticks.{whole-div, server-back, rounded}
-use Rattle.text.proofs.Bounds.{server-within, within-server, task-within}
+use Rattle.text.proofs.Bounds.{tick-within, server-within, within-server, task-within}
+use Rattle.text.proofs.Refused.{in-order}
 
 -- "line by line 1, 2, 3, 4": kept is kept of each
 pub unless-kept : (b : Bool) (why : Refusal) (r : Judged) → (unless b say Broken why else r) ≡ Kept →
@@ -48,9 +48,8 @@ pub record Keeps (n : ℕ) (a : Rows) (l : Line) : Type 0 where
   pub fits : fault a l ≡ Kept
 
 pub judge-keeps : (n : ℕ) (a : Rows) (l : Line) → judge n a l ≡ Kept → Keeps n a l
-unfolding judge
 judge-keeps n a l e =
-    let p = unless-kept (placed n a l) MalformedWhy _ e in
+    let p = unless-kept (placed n a l) MalformedWhy _ (sym (in-order n a l) ∙ e) in
     let q = unless-kept (every (bounds a l)) OutOfBounds _ (p .1) in
     let r = unless-kept (every (wholes a l)) NotWhole _ (q .1) in
     record { stands = p .0; bounded = q .0; whole = r .0; fits = r .1 }
@@ -171,12 +170,12 @@ each-more P xs x d f p i h =
 
 -- each line, as it is read
 pub tick-line : (t : Micros) → Keeps 1 noRows (OfTick t) → Good (grown noRows (OfTick t))
-unfolding bounds grown
+unfolding grown
 tick-line t k =
-    let b = every-at (tickKeeps (t .0) ∷ []) (k .bounded) 0 in
+    let b = tick-within noRows t (k .bounded) in
     record {
-      low = within-low 1 10000 (t .0) b;
-      high = within-high 1 10000 (t .0) b;
+      low = b .0;
+      high = b .1;
       servers-high = omega arith;
       tasks-high = omega arith;
       server = λ i h. absurd (omega arith);
@@ -235,9 +234,7 @@ task-line n a x g k =
 
 -- such a line has a text: its numbers are short
 pub tick-writable : (n : ℕ) (a : Rows) (t : Micros) → Keeps n a (OfTick t) → Writable (OfTick t)
-unfolding bounds
-tick-writable n a t k =
-    omega (arith, within-high 1 10000 (t .0) (every-at (tickKeeps (t .0) ∷ []) (k .bounded) 0))
+tick-writable n a t k = omega (arith, tick-within a t (k .bounded) .1)
 
 server-writable : (n : ℕ) (a : Rows) (s : ServerLine) → Good a → Keeps n a (OfServer s) → Writable (OfServer s)
 unfolding bounds

@@ -1,8 +1,8 @@
 pub mod Lines
 pub mod Ticks
 pub mod Bounds
+pub mod Refused
 pub mod Kept
 pub mod AllLines
 pub mod Allowed
-pub mod Refused
 pub mod RoundTrip

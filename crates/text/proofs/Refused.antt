@@ -53,10 +53,15 @@ fault-four a (OfServer s) = tt
 fault-four a (OfTask k) = task-four (a .servers) _
 fault-four a MalformedLine = tt
 
--- the four tests of a line in their order, whatever they are
-abbrev inOrder : Bool → Bool → Bool → Judged → Judged
+-- a line's tests in the page's order, whatever they are
+abbrev pub inOrder : Bool → Bool → Bool → Judged → Judged
 inOrder p b w f =
     unless p say Broken Malformed else unless b say Broken OutOfBounds else unless w say Broken NotWhole else f
+
+pub in-order : (n : ℕ) (a : Rows) (l : Line) →
+    judge n a l ≡ inOrder (placed n a l) (every (bounds a l)) (every (wholes a l)) (fault a l)
+unfolding judge
+in-order n a l = refl
 
 only-4 : (m : ℕ) (f : Judged) → FourOrKept f → judgedNumber f ≡ m → 0 < m → m < 4 → ⊥
 only-4 m Kept q e l h = omega arith
@@ -91,31 +96,34 @@ says-4 true true true f e = (refl, refl, refl, e)
 -- The statements to quote: the number of line n below the rows a.
 module _ (n : ℕ) (a : Rows) (l : Line) where
   pub line-1 : (judgedNumber (judge n a l) ≡ 1) ↔ (placed n a l ≡ false)
-  unfolding judge
-  line-1 = (says-1 (placed n a l) (every (bounds a l)) (every (wholes a l)) (fault a l) (fault-four a l), λ p. rw p)
+  line-1 =
+      rw (in-order n a l) (
+        says-1 (placed n a l) (every (bounds a l)) (every (wholes a l)) (fault a l) (fault-four a l),
+        λ p. rw p,
+      )
 
   pub line-2 : (judgedNumber (judge n a l) ≡ 2) ↔ ((placed n a l ≡ true) × (every (bounds a l) ≡ false))
-  unfolding judge
-  line-2 = (
-    says-2 (placed n a l) (every (bounds a l)) (every (wholes a l)) (fault a l) (fault-four a l),
-    λ p. rw (p .0, p .1),
-  )
+  line-2 =
+      rw (in-order n a l) (
+        says-2 (placed n a l) (every (bounds a l)) (every (wholes a l)) (fault a l) (fault-four a l),
+        λ p. rw (p .0, p .1),
+      )
 
   pub line-3 : (judgedNumber (judge n a l) ≡ 3) ↔
       ((placed n a l ≡ true) × (every (bounds a l) ≡ true) × (every (wholes a l) ≡ false))
-  unfolding judge
-  line-3 = (
-    says-3 (placed n a l) (every (bounds a l)) (every (wholes a l)) (fault a l) (fault-four a l),
-    λ p. rw (p .0, p .1, p .2),
-  )
+  line-3 =
+      rw (in-order n a l) (
+        says-3 (placed n a l) (every (bounds a l)) (every (wholes a l)) (fault a l) (fault-four a l),
+        λ p. rw (p .0, p .1, p .2),
+      )
 
   pub line-4 : (judgedNumber (judge n a l) ≡ 4) ↔
       ((placed n a l ≡ true) × (every (bounds a l) ≡ true) × (every (wholes a l) ≡ true) × (judgedNumber (fault a l) ≡ 4))
-  unfolding judge
-  line-4 = (
-    says-4 (placed n a l) (every (bounds a l)) (every (wholes a l)) (fault a l),
-    λ p. rw (p .0, p .1, p .2) (p .3),
-  )
+  line-4 =
+      rw (in-order n a l) (
+        says-4 (placed n a l) (every (bounds a l)) (every (wholes a l)) (fault a l),
+        λ p. rw (p .0, p .1, p .2) (p .3),
+      )
 
 -- the three ways of the writer
 wrote-ind : (P : Wrote → Type 0) (t : Table) (room : List ℕ) → (tableKeeps t ≡ false → P (unwritten Unsound room)) →

@@ -2,7 +2,7 @@
 -- task time was whole ticks." Text and lines are inverse, and so are lines and rows, but for task times that are
 -- rounded up. The statements to quote stand at the end. Assumes nothing.
 use mathlib.Core.Path.{_≡_, refl, sym, ap, subst, _∙_}
-use mathlib.Core.Bool.{true, _&&_}
+use mathlib.Core.Bool.{true}
 use mathlib.Core.List.{List, [], _∷_, _++_, map, append-cancel-right}
 use mathlib.Core.Logic.{_↔_}
 use Prim.Native.Nat.{ℕ, suc, _+_, _-_, _≤_, _<_}
@@ -10,7 +10,7 @@ use native.Mathlib.Omega.{arith}
 use lib.ListN.{length, replicate, length-append, length-map}
 use lib.Seq.{take-append-seam}
 use borrow.Author.Tests.{le-leb}
-use Rattle.laws.specs.Choice.{every, within}
+use Rattle.laws.specs.Choice.{every}
 use Rattle.laws.proofs.Choice.{and-true, and-left, and-right, is-within}
 use Rattle.decimal.specs.Parts.{lineFeed, split, closed}
 use Rattle.decimal.proofs.Parts.{AllUpTo, closed-length, lacks, allLack, split-closed, closed-split}

@@ -19,12 +19,14 @@ use Rattle.table.specs.declared.Table.{Table}
 use Rattle.table.specs.declared.Refusal.the-variants.{RoomShort, Unsound}
 use Rattle.table.specs.Rows.{rowsOf, noServer, noTask}
 use Rattle.table.specs.Rules.{keeps, tableKeeps}
+use Rattle.table.proofs.Rules.{rows-keep}
+use Rattle.text.specs.declared.Line.{Line}
 use Rattle.text.specs.declared.Line.the-variants.{OfTick, OfServer, OfTask}
 use Rattle.text.specs.declared.Writing.the-variants.{Written}
 use Rattle.text.specs.Line.{writeLine}
 use Rattle.text.specs.Write.{serverBack, taskBack, serverLines, taskLines, linesOf, write, unwritten, wrote}
 use Rattle.text.proofs.AllLines.{keeps-rows}
-use Rattle.text.proofs.RoundTrip.{table-rows-keep, written-fits}
+use Rattle.text.proofs.RoundTrip.{written-fits}
 
 -- what the writer needs of a table that keeps the rules
 pub few-servers : (t : Table) → tableKeeps t ≡ true → t .nservers ≤ 32
@@ -40,24 +42,36 @@ few-tasks t e =
     (and-left m (keeps (rowsOf t)) (and-right (within 1 32 (t .nservers)) (m && keeps (rowsOf t)) e))
 
 pub short-tick : (t : Table) → tableKeeps t ≡ true → t .tick .0 ≤ 10000
-short-tick t e = keeps-rows (rowsOf t) (table-rows-keep t e) .good .high
+short-tick t e = keeps-rows (rowsOf t) (rows-keep t e) .good .high
 
--- one row more
-servers-next : (t : ℕ) (ss : List Server) (i : ℕ) → i < length ss →
-    map writeLine (serverLines t (take (i + 1) ss)) ≡
-    map writeLine (serverLines t (take i ss)) ++ (writeLine (OfServer (serverBack t (getD ss i noServer))) ∷ [])
-unfolding serverLines
-servers-next t ss i h =
-    rw (add-one i, take-suc ss i noServer h, map-append (λ s. OfServer (serverBack t s)) (take i ss) (getD ss i noServer ∷ []))
-    (map-append writeLine (map (λ s. OfServer (serverBack t s)) (take i ss)) (OfServer (serverBack t (getD ss i noServer)) ∷ []))
+-- one row more: f is a row's line
+lines-next : {A : Type 0} (f : A → Line) (z : A) (xs : List A) (i : ℕ) → i < length xs →
+    map writeLine (map f (take (i + 1) xs)) ≡ map writeLine (map f (take i xs)) ++ (writeLine (f (getD xs i z)) ∷ [])
+lines-next f z xs i h =
+    rw (add-one i, take-suc xs i z h, map-append f (take i xs) (getD xs i z ∷ []))
+    (map-append writeLine (map f (take i xs)) (f (getD xs i z) ∷ []))
 
-tasks-next : (t : ℕ) (ks : List Task) (i : ℕ) → i < length ks →
-    map writeLine (taskLines t (take (i + 1) ks)) ≡
-    map writeLine (taskLines t (take i ks)) ++ (writeLine (OfTask (taskBack t (getD ks i noTask))) ∷ [])
-unfolding taskLines
-tasks-next t ks i h =
-    rw (add-one i, take-suc ks i noTask h, map-append (λ k. OfTask (taskBack t k)) (take i ks) (getD ks i noTask ∷ []))
-    (map-append writeLine (map (λ k. OfTask (taskBack t k)) (take i ks)) (OfTask (taskBack t (getD ks i noTask)) ∷ []))
+module _ {d : List ℕ} {at : ℕ} {e : List ℕ} {k : ℕ} {g : List ℕ} {r : ℕ} where
+  put-next : {A : Type 0} (f : A → Line) (z : A) (xs : List A) (i : ℕ) → i < length xs →
+      Put (closed (map writeLine (map f (take i xs)))) d at e k →
+      Put (closed (writeLine (f (getD xs i z)) ∷ [])) e k g r →
+      Put (closed (map writeLine (map f (take (i + 1) xs)))) d at g r
+  put-next f z xs i h p q =
+      rw (lines-next f z xs i h) (put-lines (map writeLine (map f (take i xs))) (writeLine (f (getD xs i z)) ∷ []) p q)
+
+  pub put-next-server : (t : ℕ) (ss : List Server) (i : ℕ) → i < length ss →
+      Put (closed (map writeLine (serverLines t (take i ss)))) d at e k →
+      Put (closed (writeLine (OfServer (serverBack t (getD ss i noServer))) ∷ [])) e k g r →
+      Put (closed (map writeLine (serverLines t (take (i + 1) ss)))) d at g r
+  unfolding serverLines
+  put-next-server t = put-next (λ s. OfServer (serverBack t s)) noServer
+
+  pub put-next-task : (t : ℕ) (ks : List Task) (i : ℕ) → i < length ks →
+      Put (closed (map writeLine (taskLines t (take i ks)))) d at e k →
+      Put (closed (writeLine (OfTask (taskBack t (getD ks i noTask))) ∷ [])) e k g r →
+      Put (closed (map writeLine (taskLines t (take (i + 1) ks)))) d at g r
+  unfolding taskLines
+  put-next-task t = put-next (λ x. OfTask (taskBack t x)) noTask
 
 pub no-servers : (t : Table) (d : List ℕ) (at : ℕ) → Put (closed (map writeLine (serverLines (t .tick .0) []))) d at d at
 unfolding serverLines closed
@@ -66,23 +80,6 @@ no-servers t d at = put-none d at
 pub no-tasks : (t : Table) (d : List ℕ) (at : ℕ) → Put (closed (map writeLine (taskLines (t .tick .0) []))) d at d at
 unfolding taskLines closed
 no-tasks t d at = put-none d at
-
-module _ {d : List ℕ} {at : ℕ} {e : List ℕ} {k : ℕ} {f : List ℕ} {r : ℕ} where
-  pub put-next-server : (t : ℕ) (ss : List Server) (i : ℕ) → i < length ss →
-      Put (closed (map writeLine (serverLines t (take i ss)))) d at e k →
-      Put (closed (writeLine (OfServer (serverBack t (getD ss i noServer))) ∷ [])) e k f r →
-      Put (closed (map writeLine (serverLines t (take (i + 1) ss)))) d at f r
-  put-next-server t ss i h p q =
-      rw (servers-next t ss i h)
-      (put-lines (map writeLine (serverLines t (take i ss))) (writeLine (OfServer (serverBack t (getD ss i noServer))) ∷ []) p q)
-
-  pub put-next-task : (t : ℕ) (ks : List Task) (i : ℕ) → i < length ks →
-      Put (closed (map writeLine (taskLines t (take i ks)))) d at e k →
-      Put (closed (writeLine (OfTask (taskBack t (getD ks i noTask))) ∷ [])) e k f r →
-      Put (closed (map writeLine (taskLines t (take (i + 1) ks)))) d at f r
-  put-next-task t ks i h p q =
-      rw (tasks-next t ks i h)
-      (put-lines (map writeLine (taskLines t (take i ks))) (writeLine (OfTask (taskBack t (getD ks i noTask))) ∷ []) p q)
 
 -- the `tick` line, the servers, the tasks
 lines-written : (t : Table) →
