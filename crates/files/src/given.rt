@@ -1,7 +1,11 @@
 // The table that a program is given: read, or answered as refused.
 
 use table::Table;
+use text::LONGEST;
 use text::Reading;
+
+// One byte more than a text may have, so that a longer file shows.
+const ROOM: usize = LONGEST + 1;
 
 // Whether there is a table, and it.
 pub struct Given {
@@ -29,10 +33,10 @@ fn say_refused(a: Reading) {
 
 // The table in an open file; where it is refused, that is answered.
 pub fn take_table(fd: i32) -> Given {
-    let mut buf = [0u8; 16385];
+    let mut buf = [0u8; ROOM];
     let got = crate::take_whole(fd, &mut buf);
     let n = got.len;
-    let read = text::read_table(&buf[..n]);
+    let read = reader::read_table(&buf[..n]);
     let table = read.table;
     let answer = read.answer;
     if !got.whole {

@@ -2,7 +2,8 @@ pub mod Settled
 pub mod Laws
 pub mod Table
 pub mod Decimal
-pub mod Text
+pub mod Reader
+pub mod Writer
 pub mod Verdict
 pub mod Lines
 pub mod Soundness

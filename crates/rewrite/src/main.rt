@@ -1,11 +1,12 @@
 // rewrite TABLE: the table as the writer writes it; a refused table as its one line.
 
 use table::Table;
+use text::LONGEST;
 use text::Writing;
 
 fn write_text(t: Table) {
-    let mut room = [0u8; 16384];
-    let w = text::write::write_table(t, &mut room);
+    let mut room = [0u8; LONGEST];
+    let w = writer::write_table(t, &mut room);
     match w {
         Writing::Written(n) => {
             files::write_first(&room, n);

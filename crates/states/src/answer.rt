@@ -69,7 +69,7 @@ fn is_kept(room: &[u8], from: usize) -> bool {
 // The writer, lent as many bytes of the room as are asked for. The longest text is far shorter than the room.
 fn write_in(t: Table, size: usize, room: &mut [u8]) -> Writing {
     let lent = part::first(size, room);
-    text::write::write_table(t, &mut room[..lent])
+    writer::write_table(t, &mut room[..lent])
 }
 
 // "A writer changes nothing beyond the text", and a refused one nothing at all: what no answer of the format could say is said too.

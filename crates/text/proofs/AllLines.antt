@@ -22,20 +22,12 @@ use Rattle.text.specs.declared.Line.{Line}
 use Rattle.text.specs.declared.Line.the-variants.{OfTick, OfServer, OfTask, Malformed}
 use Rattle.text.specs.declared.Judged.the-variants.{Kept}
 use Rattle.text.specs.Judge.{taskOf, placed, bounds, taskBounds, wholes, fault, judge, grown}
+use Rattle.text.specs.Allowed.{KeptFrom, grownBy}
 use Rattle.text.specs.Write.{serverBack, taskBack, serverLines, taskLines, linesOf}
 use Rattle.text.proofs.Lines.{Writable}
 use Rattle.text.proofs.Ticks.{server-there, task-there, rounded}
-use Rattle.text.proofs.Kept.{is-some, judge-keeps, keeps-judge, fits-fault, server-bounded, server-whole, Good, stepped, stands-first, tick-line, tick-writable}
-
--- each line keeps the rules where it stands: the first as line n, below the rows a
-abbrev pub KeptFrom : ℕ → Rows → List Line → Type 0
-KeptFrom n a [] = Unit {0}
-KeptFrom n a (l ∷ ls) = (judge n a l ≡ Kept) × KeptFrom (n + 1) (grown a l) ls
-
--- the rows a with those of the lines
-unfoldable pub grownBy : Rows → List Line → Rows
-grownBy a [] = a
-grownBy a (l ∷ ls) = grownBy (grown a l) ls
+use Rattle.text.proofs.Bounds.{within-tick}
+use Rattle.text.proofs.Kept.{not-nil, judge-keeps, keeps-judge, fits-fault, server-bounded, server-whole, Good, stepped, stands-first, tick-line, tick-writable}
 
 abbrev pub AllWritable : List Line → Type 0
 AllWritable [] = Unit {0}
@@ -203,7 +195,7 @@ unfolding placed bounds taskBounds wholes fault every
 task-taken n t ss ks k p h l e f =
     keeps-judge n (with t ss ks) (OfTask (taskBack (t .0) k))
     (record {
-      stands = is-some ss h;
+      stands = rw (not-nil ss h);
       bounded = rw (lt-ltb (length ks) 64 l, task-there (t .0) p k) e;
       whole = refl;
       fits = rw (task-there (t .0) p k) (fits-fault ss k f);
@@ -261,10 +253,10 @@ tasks-grown t ss ks (k ∷ more) p =
     tasks-grown t ss (ks ++ (k ∷ [])) more p ∙ rw (append-assoc ks (k ∷ []) more)
 
 tick-taken : (t : Micros) → 1 ≤ t .0 → t .0 ≤ 10000 → judge 1 noRows (OfTick t) ≡ Kept
-unfolding placed bounds wholes fault every
+unfolding placed wholes fault every
 tick-taken t l h =
     keeps-judge 1 noRows (OfTick t)
-    (record { stands = refl; bounded = rw (is-within 1 10000 (t .0) l h); whole = refl; fits = refl })
+    (record { stands = refl; bounded = within-tick noRows t l h; whole = refl; fits = refl })
 
 pub lines-taken : (a : Rows) → RowsKeep a → KeptFrom 1 noRows (linesOf a)
 unfolding linesOf grown

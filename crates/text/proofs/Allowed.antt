@@ -16,7 +16,6 @@ use Rattle.table.specs.declared.Pair.the-variants.{Equal as EqualRows, Differ}
 use Rattle.table.specs.declared.Refusal.{Refusal}
 use Rattle.table.specs.declared.Refusal.the-variants.{Malformed, OutOfBounds}
 use Rattle.table.specs.Rows.{Rows, noRows, noServer, noTask}
-use Rattle.table.specs.Rules.{differ}
 use Rattle.table.proofs.Pairs.{differ-pair, pair-differ}
 use Rattle.text.specs.declared.Judged.{Judged}
 use Rattle.text.specs.declared.Judged.the-variants.{Kept, Broken}
@@ -24,21 +23,8 @@ use Rattle.text.specs.declared.Reading.the-variants.{Taken, Refused}
 use Rattle.text.specs.Line.{readLine}
 use Rattle.text.specs.Judge.{isNil, judge, grown}
 use Rattle.text.specs.Read.{ReadRows, taken, refused, pairSaid, equalServers, equalTasks, compared, ended, judged, readFrom, read}
-use Rattle.text.proofs.Kept.{is-nil, is-some}
-use Rattle.text.proofs.AllLines.{KeptFrom, grownBy}
-
--- A text that the page allows, with the rows that it says: "The text is at most 16,384 bytes"; it is lines, "each
--- closed by a line feed, the last too", so that nothing stands after the last line feed; each line keeps the rules
--- where it stands; there is a task; and "Server priorities differ from one another; so do task priorities."
-pub record Allowed (text : List ℕ) (a : Rows) : Type 0 where
-  pub short : length text ≤ 16384
-  pub lines : List (List ℕ)
-  pub closes : split lineFeed text ≡ lines ++ ([] ∷ [])
-  pub kept : KeptFrom 1 noRows (map readLine lines)
-  pub rows : grownBy noRows (map readLine lines) ≡ a
-  pub task : 1 ≤ length (a .tasks)
-  pub servers-differ : differ (length (a .servers)) (λ i. getD (a .servers) i noServer .priority) ≡ true
-  pub tasks-differ : differ (length (a .tasks)) (λ k. getD (a .tasks) k noTask .priority) ≡ true
+use Rattle.text.specs.Allowed.{KeptFrom, grownBy, Allowed}
+use Rattle.text.proofs.Kept.{is-nil, not-nil}
 
 -- no answer but one is Taken
 not-refused : {A : Type 0} (why : Refusal) (n : ℕ) → Refused why n ≡ Taken → A
@@ -77,10 +63,10 @@ ended-taken n a e =
 
 taken-ended : (n : ℕ) (a : Rows) → Ended a → ended n a ≡ taken a
 unfolding ended compared
-taken-ended n a e = rw (is-some (a .tasks) (e .task), e .servers, e .tasks)
+taken-ended n a e = rw (not-nil (a .tasks) (e .task), e .servers, e .tasks)
 
 -- the lines
-from-line : (n : ℕ) (a : Rows) (l : List ℕ) (ms : List (List ℕ)) → 0 < length ms →
+pub from-line : (n : ℕ) (a : Rows) (l : List ℕ) (ms : List (List ℕ)) → 0 < length ms →
     readFrom n a (l ∷ ms) ≡ judged n (judge n a (readLine l)) (readFrom (n + 1) (grown a (readLine l)) ms)
 unfolding readFrom
 from-line n a l [] h = absurd (omega arith)

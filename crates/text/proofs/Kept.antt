@@ -1,8 +1,8 @@
 -- Lines that keep the rules where they stand, and the rows that they make: a line is taken exactly if its row keeps the
 -- rules of a table, so rows that keep them come of lines that do, and the other way round. Nothing here knows a byte.
 -- Assumes nothing.
-use mathlib.Core.Path.{_≡_, refl, ap}
-use mathlib.Core.Bool.{Bool, true, false, not}
+use mathlib.Core.Path.{_≡_, refl, sym, ap, _∙_}
+use mathlib.Core.Bool.{Bool, true, false}
 use mathlib.Core.List.{List, [], _∷_, _++_, append-assoc, append-nil, map-append}
 use mathlib.Core.Logic.{inl, inr}
 use Prim.Native.Nat.{ℕ, _*_, _/_, _%_, _≤_, _<_}
@@ -11,11 +11,10 @@ use native.Mathlib.Nat.{mul-le-mul-right, le-of-mul-le-mul-right, mul-mod-left}
 use lib.Dec.{leb, ltb}
 use lib.ListN.{length, getD, length-append, List·getD-append}
 use lib.Seq.{getD-append-seam}
-use borrow.Author.Tests.{eqb-true, leb-true, le-leb, ltb-true, lt-ltb}
+use borrow.Author.Tests.{eqb-true, leb-true, le-leb, ltb-true}
 use Rattle.laws.specs.Choice.{unless_say_else_, every, within}
-use Rattle.laws.specs.RoundUp.{up}
 use Rattle.laws.proofs.Choice.{clash, and-left, and-right, every-at, within-low, within-high, is-within, le-or-lt}
-use Rattle.laws.proofs.RoundUp.{le-up, div-mono}
+use Rattle.laws.proofs.RoundUp.{div-mono}
 use Rattle.units.specs.declared.Micros.{Micros}
 use Rattle.table.specs.declared.Server.{Server}
 use Rattle.table.specs.declared.Task.{Task}
@@ -31,8 +30,10 @@ use Rattle.text.specs.declared.Judged.{Judged}
 use Rattle.text.specs.declared.Judged.the-variants.{Kept, Broken}
 use Rattle.text.specs.Judge.{isNil, serverOf, taskOf, placed, serverBounds, taskBounds, bounds, whole, serverWhole, wholes, taskFault, fault, judge, grown}
 use Rattle.text.specs.Write.{serverBack, taskBack, serverLines, taskLines, linesOf}
-use Rattle.text.proofs.Lines.{Short, Writable}
+use Rattle.text.proofs.Lines.{Writable}
 use Rattle.text.proofs.Ticks.{whole-div, server-back, rounded}
+use Rattle.text.proofs.Bounds.{tick-within, server-within, within-server, task-within}
+use Rattle.text.proofs.Refused.{in-order}
 
 -- "line by line 1, 2, 3, 4": kept is kept of each
 pub unless-kept : (b : Bool) (why : Refusal) (r : Judged) → (unless b say Broken why else r) ≡ Kept →
@@ -47,9 +48,8 @@ pub record Keeps (n : ℕ) (a : Rows) (l : Line) : Type 0 where
   pub fits : fault a l ≡ Kept
 
 pub judge-keeps : (n : ℕ) (a : Rows) (l : Line) → judge n a l ≡ Kept → Keeps n a l
-unfolding judge
 judge-keeps n a l e =
-    let p = unless-kept (placed n a l) MalformedWhy _ e in
+    let p = unless-kept (placed n a l) MalformedWhy _ (sym (in-order n a l) ∙ e) in
     let q = unless-kept (every (bounds a l)) OutOfBounds _ (p .1) in
     let r = unless-kept (every (wholes a l)) NotWhole _ (q .1) in
     record { stands = p .0; bounded = q .0; whole = r .0; fits = r .1 }
@@ -75,57 +75,68 @@ fits-fault ss k e =
     let t = every-at (taskFits ss k) e in
     rw (t 0, t 1, t 2, t 3, t 4)
 
+pub rows-there : (ss : List Server) (k : Task) → taskFault ss k ≡ Kept → (k .home < length ss) × (k .degraded < length ss)
+unfolding taskFault
+rows-there ss k e =
+    let h = ltb (k .home) (length ss) in
+    let d = ltb (k .degraded) (length ss) in
+    let r = unless-kept (rowsThere ss k) AbsentRow _ e .0 in
+    (ltb-true (k .home) (length ss) (and-left h d r), ltb-true (k .degraded) (length ss) (and-right h d r))
+
+-- the bounds of a task are its room and table's own rule
+pub task-keeps : (rows t : ℕ) (k : TaskLine) → every (taskBounds rows t k) ≡ true → every (taskKeeps (taskOf t k)) ≡ true
+unfolding taskBounds every
+task-keeps rows t k e = and-right (ltb rows 64) (every (taskKeeps (taskOf t k))) e
+
 -- bounds in microseconds, and the same in ticks
-period-ticks : (t u : ℕ) → 0 < t → u % t ≡ 0 → within t (1000000 * t) u ≡ true → within 1 1000000 (u / t) ≡ true
-period-ticks t u h e w =
-    let l : 1 * t ≤ u / t * t = omega (arith, whole-div u t e, within-low t (1000000 * t) u w) in
-    let g : u / t * t ≤ 1000000 * t = omega (arith, whole-div u t e, within-high t (1000000 * t) u w) in
-    is-within 1 1000000 (u / t) (le-of-mul-le-mul-right l h) (le-of-mul-le-mul-right g h)
+period-ticks : (t u : ℕ) → 0 < t → u % t ≡ 0 → t ≤ u → u ≤ 1000000 * t → within 1 1000000 (u / t) ≡ true
+period-ticks t u h e l g =
+    let low : 1 * t ≤ u / t * t = omega (arith, whole-div u t e) in
+    let high : u / t * t ≤ 1000000 * t = omega (arith, whole-div u t e) in
+    is-within 1 1000000 (u / t) (le-of-mul-le-mul-right low h) (le-of-mul-le-mul-right high h)
 
-period-micros : (t p : ℕ) → within 1 1000000 p ≡ true → within t (1000000 * t) (p * t) ≡ true
-period-micros t p w =
-    is-within t (1000000 * t) (p * t)
-    (omega (arith, mul-le-mul-right {m = 1} {n = p} t (within-low 1 1000000 p w)))
-    (mul-le-mul-right t (within-high 1 1000000 p w))
+capacity-ticks : (t c u : ℕ) → 0 < t → c ≤ u → leb (c / t) (u / t) ≡ true
+capacity-ticks t c u h l = le-leb (c / t) (u / t) (div-mono c u t h l)
 
-capacity-ticks : (t c u : ℕ) → 0 < t → leb c u ≡ true → leb (c / t) (u / t) ≡ true
-capacity-ticks t c u h e = le-leb (c / t) (u / t) (div-mono c u t h (leb-true c u e))
-
-capacity-micros : (t c p : ℕ) → leb c p ≡ true → leb (c * t) (p * t) ≡ true
-capacity-micros t c p e = le-leb (c * t) (p * t) (mul-le-mul-right t (leb-true c p e))
+capacity-micros : (t c p : ℕ) → leb c p ≡ true → c * t ≤ p * t
+capacity-micros t c p e = mul-le-mul-right t (leb-true c p e)
 
 -- a server's line that is taken has a row that keeps the rules
 pub server-keeps : (rows t : ℕ) (s : ServerLine) → 0 < t → every (serverBounds rows t s) ≡ true →
     every (serverWhole t s) ≡ true →
     every (serverKeeps (serverOf t s)) ≡ true
-unfolding serverBounds serverWhole serverKeeps every
+unfolding serverWhole serverKeeps every
 server-keeps rows t s h b w =
-    let p = every-at (serverBounds rows t s) b in
+    let p = server-within rows t s b in
     let q = every-at (serverWhole t s) w in
     rw (
-      p 1,
-      p 2,
-      period-ticks t (s .period .0) h (eqb-true (s .period .0 % t) 0 (q 0)) (p 3),
-      capacity-ticks t (s .capacity .n .0) (s .period .0) h (p 4),
-      capacity-ticks t (s .capacity .d1 .0) (s .period .0) h (p 5),
-      capacity-ticks t (s .capacity .d2 .0) (s .period .0) h (p 6),
+      is-within 0 15 (s .partition) (omega arith) (p .partition),
+      is-within 1 255 (s .priority) (p .priority-low) (p .priority-high),
+      period-ticks t (s .period .0) h (eqb-true (s .period .0 % t) 0 (q 0)) (p .period-low) (p .period-high),
+      capacity-ticks t (s .capacity .n .0) (s .period .0) h (p .n),
+      capacity-ticks t (s .capacity .d1 .0) (s .period .0) h (p .d1),
+      capacity-ticks t (s .capacity .d2 .0) (s .period .0) h (p .d2),
     )
 
 -- and a row that keeps them has a line that is taken
 pub server-bounded : (rows t : ℕ) (s : Server) → rows < 32 → every (serverKeeps s) ≡ true →
     every (serverBounds rows t (serverBack t s)) ≡ true
-unfolding serverBounds serverKeeps every
+unfolding serverKeeps
 server-bounded rows t s l e =
     let p = every-at (serverKeeps s) e in
-    rw (
-      lt-ltb rows 32 l,
-      p 0,
-      p 1,
-      period-micros t (s .period .0) (p 2),
-      capacity-micros t (s .capacity .n .0) (s .period .0) (p 3),
-      capacity-micros t (s .capacity .d1 .0) (s .period .0) (p 4),
-      capacity-micros t (s .capacity .d2 .0) (s .period .0) (p 5),
-    )
+    let low : 1 * t ≤ s .period .0 * t = mul-le-mul-right t (within-low 1 1000000 (s .period .0) (p 2)) in
+    within-server rows t (serverBack t s)
+    (record {
+      room = l;
+      partition = within-high 0 15 (s .partition) (p 0);
+      priority-low = within-low 1 255 (s .priority) (p 1);
+      priority-high = within-high 1 255 (s .priority) (p 1);
+      period-low = omega arith;
+      period-high = mul-le-mul-right t (within-high 1 1000000 (s .period .0) (p 2));
+      n = capacity-micros t (s .capacity .n .0) (s .period .0) (p 3);
+      d1 = capacity-micros t (s .capacity .d1 .0) (s .period .0) (p 4);
+      d2 = capacity-micros t (s .capacity .d2 .0) (s .period .0) (p 5);
+    })
 
 pub server-whole : (t : ℕ) (s : Server) → every (serverWhole t (serverBack t s)) ≡ true
 unfolding serverWhole every
@@ -159,12 +170,12 @@ each-more P xs x d f p i h =
 
 -- each line, as it is read
 pub tick-line : (t : Micros) → Keeps 1 noRows (OfTick t) → Good (grown noRows (OfTick t))
-unfolding bounds grown
+unfolding grown
 tick-line t k =
-    let b = every-at (tickKeeps (t .0) ∷ []) (k .bounded) 0 in
+    let b = tick-within noRows t (k .bounded) in
     record {
-      low = within-low 1 10000 (t .0) b;
-      high = within-high 1 10000 (t .0) b;
+      low = b .0;
+      high = b .1;
       servers-high = omega arith;
       tasks-high = omega arith;
       server = λ i h. absurd (omega arith);
@@ -176,21 +187,20 @@ pub is-nil : {A : Type 0} (xs : List A) → isNil xs ≡ true → xs ≡ []
 is-nil [] e = refl
 is-nil (x ∷ xs) e = absurd (clash false e refl)
 
-pub is-some : {A : Type 0} (xs : List A) → 1 ≤ length xs → not (isNil xs) ≡ true
-is-some [] h = absurd (omega arith)
-is-some (x ∷ xs) h = refl
+pub not-nil : {A : Type 0} (xs : List A) → 1 ≤ length xs → isNil xs ≡ false
+not-nil [] h = absurd (omega arith)
+not-nil (x ∷ xs) h = refl
 
 no-task : (a : Rows) (n : ℕ) (s : ServerLine) → Keeps n a (OfServer s) → a .tasks ≡ []
 unfolding placed
 no-task a n s k = is-nil (a .tasks) (and-right (ltb 1 n) (isNil (a .tasks)) (k .stands))
 
 pub server-line : (n : ℕ) (a : Rows) (s : ServerLine) → Good a → Keeps n a (OfServer s) → Good (grown a (OfServer s))
-unfolding bounds wholes grown serverBounds
+unfolding bounds wholes grown
 server-line n a s g k =
     let t = a .tick .0 in
     let none : length (a .tasks) ≡ 0 = ap length (no-task a n s k) in
-    let m = length (a .servers) in
-    let room : length (a .servers) < 32 = ltb-true m 32 (every-at (serverBounds m t s) (k .bounded) 0) in
+    let room = server-within (length (a .servers)) t s (k .bounded) .room in
     record {
       low = g .low;
       high = g .high;
@@ -204,12 +214,10 @@ server-line n a s g k =
     }
 
 pub task-line : (n : ℕ) (a : Rows) (x : TaskLine) → Good a → Keeps n a (OfTask x) → Good (grown a (OfTask x))
-unfolding bounds fault grown taskBounds every
+unfolding bounds fault grown
 task-line n a x g k =
     let t = a .tick .0 in
-    let m = length (a .tasks) in
-    let b = every (taskKeeps (taskOf t x)) in
-    let room : length (a .tasks) < 64 = ltb-true m 64 (and-left (ltb m 64) b (k .bounded)) in
+    let room = task-within (length (a .tasks)) t x (g .low) (k .bounded) .room in
     record {
       low = g .low;
       high = g .high;
@@ -218,7 +226,7 @@ task-line n a x g k =
       server = g .server;
       task =
           each-more (λ y. every (taskKeeps y) ≡ true) (a .tasks) (taskOf t x) noTask (g .task)
-          (and-right (ltb (length (a .tasks)) 64) (every (taskKeeps (taskOf t x))) (k .bounded));
+          (task-keeps (length (a .tasks)) t x (k .bounded));
       fits =
           each-more (λ y. every (taskFits (a .servers) y) ≡ true) (a .tasks) (taskOf t x) noTask (g .fits)
           (fault-fits (a .servers) (taskOf t x) (k .fits));
@@ -226,46 +234,34 @@ task-line n a x g k =
 
 -- such a line has a text: its numbers are short
 pub tick-writable : (n : ℕ) (a : Rows) (t : Micros) → Keeps n a (OfTick t) → Writable (OfTick t)
-unfolding bounds
-tick-writable n a t k =
-    omega (arith, within-high 1 10000 (t .0) (every-at (tickKeeps (t .0) ∷ []) (k .bounded) 0))
+tick-writable n a t k = omega (arith, tick-within a t (k .bounded) .1)
 
 server-writable : (n : ℕ) (a : Rows) (s : ServerLine) → Good a → Keeps n a (OfServer s) → Writable (OfServer s)
-unfolding bounds serverBounds
+unfolding bounds
 server-writable n a s g k =
-    let t = a .tick .0 in
-    let b = every-at (serverBounds (length (a .servers)) t s) (k .bounded) in
-    let p : s .period .0 ≤ 1000000 * t = within-high t (1000000 * t) (s .period .0) (b 3) in (
-      omega (arith, within-high 0 15 (s .partition) (b 1)),
-      omega (arith, within-high 1 255 (s .priority) (b 2)),
-      omega (arith, g .high),
+    let w = server-within (length (a .servers)) (a .tick .0) s (k .bounded) in (
+      omega (arith, w .partition),
+      omega (arith, w .priority-high),
+      omega (arith, g .high, w .period-high),
       (
-        omega (arith, g .high, leb-true (s .capacity .n .0) (s .period .0) (b 4)),
-        omega (arith, g .high, leb-true (s .capacity .d1 .0) (s .period .0) (b 5)),
-        omega (arith, g .high, leb-true (s .capacity .d2 .0) (s .period .0) (b 6)),
+        omega (arith, g .high, w .period-high, w .n),
+        omega (arith, g .high, w .period-high, w .d1),
+        omega (arith, g .high, w .period-high, w .d2),
       ),
     )
 
-short-time : (t u : ℕ) → 1 ≤ t → t ≤ 10000 → within 1 100000 (up u t) ≡ true → Short u
-short-time t u l h w =
-    omega (arith, le-up u t l, mul-le-mul-right {m = up u t} {n = 100000} t (within-high 1 100000 (up u t) w))
-
 task-writable : (n : ℕ) (a : Rows) (x : TaskLine) → Good a → Keeps n a (OfTask x) → Writable (OfTask x)
-unfolding bounds fault taskBounds taskKeeps taskFits
+unfolding bounds fault
 task-writable n a x g k =
-    let t = a .tick .0 in
-    let y = taskOf t x in
-    let b = every-at (taskBounds (length (a .tasks)) t x) (k .bounded) in
-    let r = every-at (taskFits (a .servers) y) (fault-fits (a .servers) y (k .fits)) 0 in
-    let h = ltb (x .home) (length (a .servers)) in
-    let d = ltb (x .degraded) (length (a .servers)) in (
-      omega (arith, g .servers-high, ltb-true (x .home) (length (a .servers)) (and-left h d r)),
-      omega (arith, g .servers-high, ltb-true (x .degraded) (length (a .servers)) (and-right h d r)),
-      omega (arith, within-high 1 255 (x .priority) (b 1)),
+    let r = rows-there (a .servers) (taskOf (a .tick .0) x) (k .fits) in
+    let w = task-within (length (a .tasks)) (a .tick .0) x (g .low) (k .bounded) in (
+      omega (arith, g .servers-high, r .0),
+      omega (arith, g .servers-high, r .1),
+      omega (arith, w .priority-high),
       (
-        short-time t (x .limit .n .0) (g .low) (g .high) (b 2),
-        short-time t (x .limit .d1 .0) (g .low) (g .high) (b 3),
-        short-time t (x .limit .d2 .0) (g .low) (g .high) (b 4),
+        omega (arith, g .high, w .n-high),
+        omega (arith, g .high, w .d1-high),
+        omega (arith, g .high, w .d2-high),
       ),
     )
 

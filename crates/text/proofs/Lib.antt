@@ -1,12 +1,8 @@
 pub mod Lines
 pub mod Ticks
+pub mod Bounds
+pub mod Refused
 pub mod Kept
 pub mod AllLines
 pub mod Allowed
 pub mod RoundTrip
-pub mod Written
-pub mod Said
-pub mod RoundedUp
-pub mod Judging
-pub mod Growing
-pub mod Whole

@@ -2,7 +2,7 @@
 -- task time was whole ticks." Text and lines are inverse, and so are lines and rows, but for task times that are
 -- rounded up. The statements to quote stand at the end. Assumes nothing.
 use mathlib.Core.Path.{_≡_, refl, sym, ap, subst, _∙_}
-use mathlib.Core.Bool.{true, _&&_}
+use mathlib.Core.Bool.{true}
 use mathlib.Core.List.{List, [], _∷_, _++_, map, append-cancel-right}
 use mathlib.Core.Logic.{_↔_}
 use Prim.Native.Nat.{ℕ, suc, _+_, _-_, _≤_, _<_}
@@ -10,23 +10,25 @@ use native.Mathlib.Omega.{arith}
 use lib.ListN.{length, replicate, length-append, length-map}
 use lib.Seq.{take-append-seam}
 use borrow.Author.Tests.{le-leb}
-use Rattle.laws.specs.Choice.{every, within}
+use Rattle.laws.specs.Choice.{every}
 use Rattle.laws.proofs.Choice.{and-true, and-left, and-right, is-within}
 use Rattle.decimal.specs.Parts.{lineFeed, split, closed}
 use Rattle.decimal.proofs.Parts.{AllUpTo, closed-length, lacks, allLack, split-closed, closed-split}
 use Rattle.table.specs.declared.Table.{Table}
 use Rattle.table.specs.Rows.{Rows, rowsOf, tableOf, noServer, noTask}
 use Rattle.table.specs.Rules.{keeps, tableKeeps}
+use Rattle.table.proofs.Rules.{rows-keep as table-rows-keep}
 use Rattle.text.specs.declared.Line.{Line}
 use Rattle.text.specs.declared.Line.the-variants.{OfTick, OfServer, OfTask, Malformed}
 use Rattle.text.specs.declared.Reading.the-variants.{Taken}
 use Rattle.text.specs.Line.{readLine, writeLine, lineOf, tickForm, serverForm, taskForm}
 use Rattle.text.specs.Read.{taken, read, shown}
+use Rattle.text.specs.Allowed.{Allowed}
 use Rattle.text.specs.Write.{wrote, written, serverBack, taskBack, serverLines, taskLines, linesOf, write, taskTimesWhole, allTimesWhole, timesWhole}
 use Rattle.text.proofs.Lines.{Writable, Formed, line-lacks, read-write-line, write-read-line, line-length}
 use Rattle.text.proofs.Ticks.{rounded, whole-stays, stays-whole}
 use Rattle.text.proofs.AllLines.{AllWritable, Told, told, RowsKeep, good-keeps, keeps-rows, lines-taken, lines-grown}
-use Rattle.text.proofs.Allowed.{Allowed, allowed-taken, taken-allowed}
+use Rattle.text.proofs.Allowed.{allowed-taken, taken-allowed}
 
 -- all lines at once
 lines-lack : (xs : List Line) → allLack lineFeed (map writeLine xs) ≡ true
@@ -173,7 +175,7 @@ allowed-text text a w = (there, back)
         (whole-stay (a .tick .0) good (w .lines) (rw (w .closes) at p)) ∙ stood
 
 -- a table that holds the rows in use and nothing else
-table-rows : (a : Rows) → rowsOf (tableOf a) ≡ a
+pub table-rows : (a : Rows) → rowsOf (tableOf a) ≡ a
 unfolding tableOf
 table-rows a =
     rw (
@@ -188,13 +190,6 @@ rows-table a e =
     let p = is-within 1 32 (length (a .servers)) (k .servers-low) (k .good .servers-high) in
     let q = is-within 1 64 (length (a .tasks)) (k .tasks-low) (k .good .tasks-high) in
     rw (p, q, table-rows a) e
-
-pub table-rows-keep : (t : Table) → tableKeeps t ≡ true → keeps (rowsOf t) ≡ true
-unfolding tableKeeps
-table-rows-keep t e =
-    let n = within 1 32 (t .nservers) in
-    let m = within 1 64 (t .ntasks) in
-    and-right m (keeps (rowsOf t)) (and-right n (m && keeps (rowsOf t)) e)
 
 -- The statements to quote. `shown (read text)` is what the reader answers, and `write (rowsOf t)` is the text that the
 -- writer writes of t.

@@ -8,20 +8,23 @@ use Rattle.laws.specs.Choice.{unless_say_else_, every, within}
 use Rattle.laws.specs.RoundUp.{up}
 use Rattle.units.specs.declared.Ticks.{Ticks}
 use Rattle.units.specs.declared.Micros.{Micros}
-use Rattle.table.specs.declared.ByMode.{ByMode}
 use Rattle.table.specs.declared.Server.{Server}
 use Rattle.table.specs.declared.Task.{Task}
-use Rattle.table.specs.declared.Refusal.{Refusal}
 use Rattle.table.specs.declared.Refusal.the-variants.{Malformed, OutOfBounds, NotWhole, AbsentRow, OtherPartition, NotTimed, OtherServer, Falling}
+use Rattle.table.specs.Refusals.{numberOf}
 use Rattle.table.specs.Rows.{Rows}
 use Rattle.table.specs.Rules.{tickKeeps, taskKeeps, rowsThere, samePartition, degradedTimed, timedAtHome, rising}
-use Rattle.text.specs.declared.Times.{Times}
 use Rattle.text.specs.declared.ServerLine.{ServerLine}
 use Rattle.text.specs.declared.TaskLine.{TaskLine}
 use Rattle.text.specs.declared.Line.{Line}
 use Rattle.text.specs.declared.Line.the-variants.{OfTick, OfServer, OfTask, Malformed as MalformedLine}
 use Rattle.text.specs.declared.Judged.{Judged}
 use Rattle.text.specs.declared.Judged.the-variants.{Kept, Broken}
+
+-- The paper's number of a judgement, 0 where the line is kept.
+abbrev pub judgedNumber : Judged → ℕ
+judgedNumber Kept = 0
+judgedNumber (Broken why) = numberOf why
 
 -- no row
 abbrev pub isNil : {A : Type 0} → List A → Bool

@@ -2,5 +2,5 @@ pub mod Words
 pub mod Line
 pub mod Judge
 pub mod Read
+pub mod Allowed
 pub mod Write
-pub mod Ready

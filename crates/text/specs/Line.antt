@@ -1,6 +1,6 @@
 -- 01, Tables: what a line says, in microseconds, as it stands. Here is judged only whether the line has the form of a `tick`, a
 -- `server` or a `task` line; bounds and rows are judged in Judge.antt, and know nothing of bytes.
-use mathlib.Core.Bool.{Bool, true, false}
+use mathlib.Core.Bool.{Bool}
 use mathlib.Core.List.{List, [], _∷_}
 use Prim.Native.Nat.{ℕ}
 use lib.Dec.{eqb}

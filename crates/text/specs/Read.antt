@@ -1,6 +1,6 @@
 -- 01, Numbers for no: what the reader answers. "Reading: length first; then line by line 1, 2, 3, 4; then 5 for the first pair of server
 -- rows with equal priority, smaller row first (pairs ordered by it, then by the larger row), then the same for tasks."
-use mathlib.Core.Bool.{Bool, true, false, not}
+use mathlib.Core.Bool.{not}
 use mathlib.Core.List.{List, [], _∷_}
 use Prim.Native.Nat.{ℕ, _+_}
 use lib.Dec.{leb}

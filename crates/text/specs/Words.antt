@@ -1,5 +1,5 @@
 -- 01, Tables: the words of table text, as bytes, and what the words of a kind and of a level mean.
-use mathlib.Core.Bool.{Bool, true, false, _||_}
+use mathlib.Core.Bool.{Bool, _||_}
 use mathlib.Core.List.{List}
 use Prim.Native.Nat.{ℕ}
 use Rattle.laws.specs.Choice.{if_then_else_}

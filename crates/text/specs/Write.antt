@@ -1,5 +1,5 @@
 -- 01, Tables and Numbers for no: the text of a table's rows, and what the writer answers and leaves in the lent room.
-use mathlib.Core.Bool.{Bool, true, false, _&&_}
+use mathlib.Core.Bool.{Bool, true, _&&_}
 use mathlib.Core.List.{List, [], _∷_, _++_, map}
 use Prim.Native.Nat.{ℕ, _*_}
 use lib.Dec.{leb}

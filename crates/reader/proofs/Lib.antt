@@ -1,0 +1,5 @@
+pub mod Said
+pub mod RoundedUp
+pub mod Judging
+pub mod Growing
+pub mod Whole

@@ -1,0 +1,218 @@
+-- `reader::read_table` meets its contract: t holds the rows of the lines before line n, which begins at `at`, so what
+-- the text says is
+-- what is said from there on. Assumes nothing.
+use mathlib.Core.Path.{_≡_, sym, ap, subst, _∙_}
+use Prim.Native.Nat.{_+_, _-_, _≤_, _<_}
+use native.Mathlib.Omega.{arith}
+use borrow.Author.Needs.{needs}
+use lib.Arith.{lt-of-le-ne}
+use lib.ListN.{length, drop}
+use Rattle.decimal.specs.Parts.{lineFeed, split}
+use Rattle.table.specs.Rows.{noRows, rowsOf}
+use Rattle.text.specs.Read.{readFrom, shown}
+use Rattle.reader.specs.Inner.{Ready}
+use Rattle.reader.proofs.Growing.{grows, ready-next}
+use Rattle.reader.proofs.Whole.{read-long, read-short, starts, starts-from, from-unclosed, from-end, from-broken, from-kept}
+use Rattle.reader.proofs.read_table.Statement.{statement}
+use Rattle.reader.proofs.read_table.Tie as tie
+
+abbrev Inv-loop : tie.InvT-loop
+Inv-loop text t₀ at₀ n₀ t at n =
+    (at ≤ length text)
+    × (n ≤ at + 1)
+    × Ready n t
+    × (readFrom 1 noRows (split lineFeed text) ≡ readFrom n (rowsOf t) (split lineFeed (drop at text)))
+
+abbrev μ-loop : tie.MeasureT-loop
+μ-loop text t₀ at₀ n₀ t at n = length text - at
+
+refuse-requires : tie.Need-refuse-requires Inv-loop μ-loop
+refuse-requires c κs = tt
+
+returns : tie.Need-returns Inv-loop μ-loop
+returns c =
+    c .refuse .ensures ∙ ap shown (read-long (c .before .before .before .args .text .now) (c .before .if1 .taken))
+
+no-table-requires : tie.Need-no-table-requires Inv-loop μ-loop
+no-table-requires c κs = tt
+
+loop-holds : tie.Need-loop-holds Inv-loop μ-loop
+loop-holds c = (
+  omega arith,
+  omega arith,
+  starts (c .no-table .result) (c .no-table .ensures),
+  starts-from
+      (c .no-table .result)
+      (split lineFeed (c .before .before .before .args .text .now))
+      (c .no-table .ensures),
+)
+
+find-requires : tie.Need-find-requires Inv-loop μ-loop
+find-requires c κs = (omega arith, omega arith)
+
+refuse-requires-2 : tie.Need-refuse-requires-2 Inv-loop μ-loop
+refuse-requires-2 c κs = tt
+
+returns-2 : tie.Need-returns-2 Inv-loop μ-loop
+returns-2 c =
+    let start = c .before .before .before .before .before .before .before .before in
+    let f = c .before .before .before .find in
+    let l = c .before .before .before .before .loop in
+    let s = start .args .text .now in
+    c .refuse2 .ensures
+    ∙ ap
+    shown
+    (from-unclosed (l .n) (rowsOf (l .t)) s (l .at) (f .result) (f .ensures .0) (omega arith) (omega arith)
+    ∙ sym (l .inv .3)
+    ∙ read-short s (c .before .before .before .before .before .before .if1 .left))
+
+end-requires : tie.Need-end-requires Inv-loop μ-loop
+end-requires c κs = c .before .before .before .loop .inv .2
+
+returns-3 : tie.Need-returns-3 Inv-loop μ-loop
+returns-3 c =
+    let start = c .before .before .before .before .before .before .before .before in
+    let f = c .before .before .before .find in
+    let l = c .before .before .before .before .loop in
+    let s = start .args .text .now in
+    c .end .ensures
+    ∙ ap
+    shown
+    (from-end (l .n) (rowsOf (l .t)) s (l .at) (omega arith) ∙ sym (l .inv .3) ∙ read-short s (c .before .before .before .before .before .before .if1 .left))
+
+sub-read-line : tie.Need-sub-read-line Inv-loop μ-loop
+sub-read-line c = omega arith
+
+part-read-line-start : tie.Need-part-read-line-start Inv-loop μ-loop
+part-read-line-start c = search needs
+
+part-read-line-end : tie.Need-part-read-line-end Inv-loop μ-loop
+part-read-line-end c = search needs
+
+read-line-requires : tie.Need-read-line-requires Inv-loop μ-loop
+read-line-requires c κs = tt
+
+judge-line-requires : tie.Need-judge-line-requires Inv-loop μ-loop
+judge-line-requires c κs = c .before .before .before .before .loop .inv .2
+
+enum-known-j : tie.Need-enum-known-j Inv-loop μ-loop
+enum-known-j c = search needs
+
+refuse-requires-3 : tie.Need-refuse-requires-3 Inv-loop μ-loop
+refuse-requires-3 c κs = tt
+
+returns-4 : tie.Need-returns-4 Inv-loop μ-loop
+returns-4 c =
+    let start = c .before .before .before .before .before .before .before .before .before .before .before .before .before in
+    let f = c .before .before .before .before .before .before .before .before .find in
+    let l = c .before .before .before .before .before .before .before .before .before .loop in
+    let s = start .args .text .now in
+    c .refuse3 .ensures
+    ∙ ap
+    shown
+    (from-broken
+    (l .n)
+    (rowsOf (l .t))
+    s
+    (l .at)
+    (f .result)
+    (f .ensures .0)
+    (c .before .before .before .before .before .read-line .result)
+    (c .before .before .j .given .0 .0)
+    (lt-of-le-ne (f .ensures .1) (c .before .before .before .before .before .before .before .if2 .left))
+    (c .before .before .before .before .before .read-line .ensures)
+    (sym (c .before .before .before .before .judge-line .ensures) ∙ c .before .before .j .given .1)
+    ∙ sym (l .inv .3)
+    ∙ read-short
+    s
+    (c .before .before .before .before .before .before .before .before .before .before .before .if1 .left))
+
+enum-told : tie.Need-enum-told Inv-loop μ-loop
+enum-told c = search needs
+
+grow-requires : tie.Need-grow-requires Inv-loop μ-loop
+grow-requires c κs =
+    let l = c .before .before .before .before .before .before .before .loop in
+    grows
+    (l .n)
+    (l .t)
+    (c .before .before .before .read-line .result)
+    (l .inv .2)
+    (sym (c .before .before .judge-line .ensures) ∙ c .enum-told .given .1)
+
+add-at : tie.Need-add-at Inv-loop μ-loop
+add-at c = omega arith
+
+add-n : tie.Need-add-n Inv-loop μ-loop
+add-n c = omega arith
+
+loop-less : tie.Need-loop-less Inv-loop μ-loop
+loop-less c =
+    let start = c .before .before .before .before .before .before .before .before .before .before .before .before in
+    let f = c .before .before .before .before .before .before .before .find in
+    let l = c .before .before .before .before .before .before .before .before .loop in
+    let s = start .args .text .now in
+    let m : f .result < length s = lt-of-le-ne (f .ensures .1) (c .before .before .before .before .before .before .if2 .left) in
+    let g : l .at ≤ f .result = omega arith in
+    omega arith
+
+loop-again : tie.Need-loop-again Inv-loop μ-loop
+loop-again c =
+    let start = c .before .before .before .before .before .before .before .before .before .before .before .before in
+    let f = c .before .before .before .before .before .before .before .find in
+    let l = c .before .before .before .before .before .before .before .before .loop in
+    let s = start .args .text .now in
+    let m : f .result < length s = lt-of-le-ne (f .ensures .1) (c .before .before .before .before .before .before .if2 .left) in
+    let g : l .at ≤ f .result = omega arith in
+    let k = sym (c .before .before .before .judge-line .ensures) ∙ c .before .enum-told .given .1 in (
+      omega arith,
+      omega arith,
+      subst
+          (Ready (l .n + 1))
+          (sym (c .grow .ensures))
+          (ready-next (l .n) (l .t) (c .before .before .before .before .read-line .result) (l .inv .2) k),
+      l .inv .3
+          ∙ from-kept
+          (l .n)
+          (rowsOf (l .t))
+          s
+          (l .at)
+          (f .result)
+          (f .ensures .0)
+          (c .before .before .before .before .read-line .result)
+          (c .grow .result)
+          m
+          (c .before .before .before .before .read-line .ensures)
+          k
+          (c .grow .ensures),
+    )
+
+pub read-table-spec : {M : Type 1} → statement M
+read-table-spec =
+    tie.close
+    (tie.spec
+    Inv-loop
+    μ-loop
+    refuse-requires
+    returns
+    no-table-requires
+    loop-holds
+    find-requires
+    refuse-requires-2
+    returns-2
+    end-requires
+    returns-3
+    sub-read-line
+    part-read-line-start
+    part-read-line-end
+    read-line-requires
+    judge-line-requires
+    enum-known-j
+    refuse-requires-3
+    returns-4
+    enum-told
+    grow-requires
+    add-at
+    add-n
+    loop-less
+    loop-again)

@@ -1,0 +1,26 @@
+-- `writer::put_field` meets its contract: the number, then the tab. Assumes nothing.
+use mathlib.Core.List.{[], _∷_}
+use Rattle.decimal.specs.Number.{digits}
+use Rattle.decimal.specs.Parts.{tab}
+use Rattle.decimal.proofs.Room.{put-more}
+use borrow.Author.Needs.{needs}
+use Rattle.writer.proofs.put_field.Statement.{statement}
+use Rattle.writer.proofs.put_field.Tie as tie
+
+put-number-requires : tie.Need-put-number-requires
+put-number-requires c κs = search needs
+
+put-byte-requires : tie.Need-put-byte-requires
+put-byte-requires c κs = search needs
+
+same-length : tie.Need-same-length
+same-length c = search needs
+
+returns : tie.Need-returns
+returns c =
+    let b = c .before .before in
+    let n = b .before .before .before .before in
+    put-more (digits (n .before .before .before .args .n)) (tab ∷ []) (n .put-number .ensures) (b .put-byte .ensures)
+
+pub put-field-spec : {M : Type 1} → statement M
+put-field-spec = tie.close (tie.spec put-number-requires put-byte-requires same-length returns)

@@ -1,0 +1,26 @@
+-- `writer::put_time` meets its contract: the number of microseconds is put. Assumes nothing.
+use mathlib.Core.Path.{ap}
+use mathlib.Core.List.{[], _∷_, _++_}
+use Rattle.decimal.specs.Number.{digits}
+use Rattle.decimal.specs.Parts.{tab}
+use Rattle.decimal.proofs.Room.{put-as}
+use borrow.Author.Needs.{needs}
+use Rattle.writer.proofs.put_time.Statement.{statement}
+use Rattle.writer.proofs.put_time.Tie as tie
+
+in-micros-requires : tie.Need-in-micros-requires
+in-micros-requires c κs = search needs
+
+put-field-requires : tie.Need-put-field-requires
+put-field-requires c κs = search needs
+
+same-length : tie.Need-same-length
+same-length c = search needs
+
+returns : tie.Need-returns
+returns c =
+    let p = c .before .before in
+    put-as (ap (λ x. digits (x .0) ++ (tab ∷ [])) (p .before .before .in-micros .ensures)) (p .put-field .ensures)
+
+pub put-time-spec : {M : Type 1} → statement M
+put-time-spec = tie.close (tie.spec in-micros-requires put-field-requires same-length returns)
