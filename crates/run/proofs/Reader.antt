@@ -125,6 +125,38 @@ used-anew t s mark i l few h e =
     used-settled t s mark i l few h ∙
     ap (λ (b : Bool). if b then 0 else usedAt s i) (eq-eqb (elapsedAt s i) (periodAt t i) e)
 
+-- "its run count equals its limit in the present mode": a job that is not at its limit stays, and so does the mode.
+pub below-limit : (k : Task) (c : ℕ) (m : Mode) → (c ≡ inMode (k .limit) m → ⊥) →
+    judge 3 k c m ≡ record { mode = m; cut = false }
+unfolding judge
+below-limit k c m h = rw (ne-eqb c (inMode (k .limit) m) h)
+
+-- "in N the mode rises to D1"
+pub rises-to-D1 : (k : Task) (c : ℕ) → c ≡ inMode (k .limit) N → (c ≡ inMode (k .limit) D1 → ⊥) →
+    judge 3 k c N ≡ record { mode = D1; cut = false }
+unfolding judge
+rises-to-D1 k c n d = rw (eq-eqb c (inMode (k .limit) N) n, ne-eqb c (inMode (k .limit) D1) d)
+
+-- "in D1 it rises to D2 for a MI or HI task"
+pub rises-to-D2 : (k : Task) (c : ℕ) → isLow (k .level) ≡ false → c ≡ inMode (k .limit) D1 →
+    (c ≡ inMode (k .limit) D2 → ⊥) → judge 3 k c D1 ≡ record { mode = D2; cut = false }
+unfolding judge
+rises-to-D2 k c low d b = rw (eq-eqb c (inMode (k .limit) D1) d) (go (k .level) low)
+  where
+    go : (l : Level) → isLow l ≡ false → onward (judge 2 k c) D1 (atLimit D1 l) ≡ record { mode = D2; cut = false }
+    go LO e = absurd (clash true refl e)
+    go MI e = rw (ne-eqb c (inMode (k .limit) D2) b)
+    go HI e = rw (ne-eqb c (inMode (k .limit) D2) b)
+
+-- "else the job is cut; in D2 the job is cut"
+pub cut-in-D1 : (k : Task) (c : ℕ) → k .level ≡ LO → c ≡ inMode (k .limit) D1 → judge 3 k c D1 ≡ record { mode = D1; cut = true }
+unfolding judge
+cut-in-D1 k c low d = rw (eq-eqb c (inMode (k .limit) D1) d, low)
+
+pub cut-in-D2 : (k : Task) (c : ℕ) → c ≡ inMode (k .limit) D2 → judge 3 k c D2 ≡ record { mode = D2; cut = true }
+unfolding judge
+cut-in-D2 k c b = rw (eq-eqb c (inMode (k .limit) D2) b)
+
 -- "After a rise, judge again at the new limit": a job at its limit in N that is at its limit in D1 too rises twice,
 -- or is cut if it is at its limit in D2 too; a LO job is cut in D1.
 pub judged-again : (k : Task) (c : ℕ) → isLow (k .level) ≡ false → c ≡ inMode (k .limit) N → c ≡ inMode (k .limit) D1 →
@@ -216,6 +248,23 @@ pub none-waits-normal : (t : Table) (s : State) (mark : Bool) →
     ((k : ℕ) → k < t .ntasks → waitingAt (settle t s mark .state) k ≡ 0) → settle t s mark .state .mode ≡ N
 unfolding settle step4
 none-waits-normal t s mark = step3-normal t (step2 t (s .mode) (step1 t s mark (s .last) .state))
+
+-- and where it finds one, it finds the mode that step 1 left.
+step3-stays : (t : Table) (s : State) (k : ℕ) → k < t .ntasks → 0 < waitingAt (step3 t s) k → step3 t s .mode ≡ s .mode
+unfolding step3 someWaits
+step3-stays t s k l =
+    if-ind
+    (λ (z : State). 0 < waitingAt z k → z .mode ≡ s .mode)
+    (someWaits t s)
+    (λ e w. refl)
+    (λ e w. absurd (clash (someWaits t s) (any-at (taskWaits s) (t .ntasks) k l (lt-ltb 0 (waitingAt s k) w)) e))
+
+pub waits-as-risen : (t : Table) (s : State) (mark : Bool) (k : ℕ) → k < t .ntasks →
+    0 < waitingAt (settle t s mark .state) k → settle t s mark .state .mode ≡ step1 t s mark (s .last) .state .mode
+unfolding settle step4
+waits-as-risen t s mark k l w =
+    step3-stays t (step2 t (s .mode) (step1 t s mark (s .last) .state)) k l w
+    ∙ step2-mode t (s .mode) (step1 t s mark (s .last) .state)
 
 -- From a fresh start of a table that keeps the rules nothing is ever answered 13.
 pub never-13 : (t : Table) (es : List Event) (e : Event) → Sized t → tableKeeps t ≡ true →
