@@ -1,12 +1,11 @@
 -- The columns of the servers that delay a row, as a loop over the rows builds them: what stands in them asks what the rows
 -- passed ask. Assumes nothing.
-use mathlib.Core.Path.{_≡_, refl, sym, _∙_}
+use mathlib.Core.Path.{_≡_, refl, _∙_}
 use mathlib.Core.Bool.{Bool, true, false}
 use mathlib.Core.List.{List}
-use mathlib.Core.Logic.{_⊎_, inl, inr}
-use Prim.Native.Nat.{ℕ, _+_, _*_, _-_, _≤_, _<_}
+use Prim.Native.Nat.{ℕ, _+_, _*_, _≤_, _<_}
 use native.Mathlib.Omega.{arith}
-use native.Mathlib.Nat.{add-zero, mul-zero}
+use native.Mathlib.Nat.{add-zero}
 use lib.Dec.{ltb}
 use lib.ListN.{length, getD, set, length-set}
 use lib.Seq.{getD-set-same, getD-set-other}
@@ -22,9 +21,8 @@ use Rattle.table.specs.declared.Mode.{Mode}
 use Rattle.table.specs.declared.Table.{Table}
 use Rattle.table.specs.Rows.{serverAt, priorityAt, periodAt, capacityAt}
 use Rattle.table.proofs.Rules.{ServerRules}
-use Rattle.verdict.specs.declared.Higher.{Higher}
 use Rattle.verdict.specs.Verdict.{demand, demandAt, interference}
-use Rattle.verdict.specs.Inner.{lateOf, interferenceIn, Bounded, Columns, Delaying}
+use Rattle.verdict.specs.Inner.{lateOf, interferenceIn, Bounded, Delaying}
 use Rattle.verdict.proofs.Columns.{askedAt}
 use Rattle.verdict.proofs.Interference.{partAt, part-lower}
 
