@@ -1,10 +1,11 @@
 -- Lists made anew row by row: their rows, their length, and how a loop makes them. Assumes nothing.
-use mathlib.Core.Path.{_≡_, refl, ap}
+use mathlib.Core.Path.{_≡_, refl, ap, sym, _∙_}
 use mathlib.Core.List.{List, [], _∷_}
 use Prim.Native.Nat.{ℕ, zero, suc, _+_, _≤_, _<_}
 use native.Mathlib.Omega.{arith}
 use native.Mathlib.Numerals.{add-one}
 use lib.ListN.{length, getD, set}
+use lib.Seq.{set-getD}
 use Rattle.laws.specs.Rows.{anew}
 
 pub length-anew : (n : ℕ) (f : ℕ → ℕ → ℕ) (xs : List ℕ) → length (anew n f xs) ≡ length xs
@@ -33,17 +34,34 @@ pub anew-none : (f : ℕ → ℕ → ℕ) (xs : List ℕ) → xs ≡ anew 0 f xs
 unfolding anew
 anew-none f xs = refl
 
-anew-suc : (f : ℕ → ℕ → ℕ) (xs : List ℕ) (i d : ℕ) → i < length xs → set (anew i f xs) i (f i (getD xs i d)) ≡ anew (suc i) f xs
+put-suc : (f : ℕ → ℕ → ℕ) (xs : List ℕ) (i d : ℕ) → set (anew i f xs) i (f i (getD xs i d)) ≡ anew (suc i) f xs
 unfolding anew
-anew-suc f [] i d h = absurd (omega arith)
-anew-suc f (x ∷ xs) zero d h = refl
-anew-suc f (x ∷ xs) (suc i) d h = ap (λ ys. f 0 x ∷ ys) (anew-suc (λ j. f (suc j)) xs i d (omega arith))
+put-suc f [] zero d = refl
+put-suc f [] (suc i) d = refl
+put-suc f (x ∷ xs) zero d = refl
+put-suc f (x ∷ xs) (suc i) d = ap (λ ys. f 0 x ∷ ys) (put-suc (λ j. f (suc j)) xs i d)
 
-pub anew-next : (f : ℕ → ℕ → ℕ) (xs ys : List ℕ) (i d : ℕ) → ys ≡ anew i f xs → i < length xs → set ys i (f i (getD ys i d)) ≡ anew (i + 1) f xs
-anew-next f xs ys i d e h = rw (e, anew-past i f xs i d (omega arith), add-one i) (anew-suc f xs i d h)
+module _ (f : ℕ → ℕ → ℕ) (xs ys : List ℕ) (i d : ℕ) (e : ys ≡ anew i f xs) where
+  -- row i is still as it was
+  pub anew-row : getD ys i d ≡ getD xs i d
+  anew-row = rw e (anew-past i f xs i d (omega arith))
+
+  -- it is made anew by a store, or stays as it is
+  pub anew-put : (v : ℕ) → f i (getD ys i d) ≡ v → set ys i v ≡ anew (i + 1) f xs
+  anew-put v h = rw (← h, anew-row, e, add-one i) (put-suc f xs i d)
+
+  pub anew-stay : f i (getD ys i d) ≡ getD ys i d → ys ≡ anew (i + 1) f xs
+  anew-stay h = sym (set-getD ys i d) ∙ anew-put (getD ys i d) h
 
 pub anew-cong : (n : ℕ) (f g : ℕ → ℕ → ℕ) (xs : List ℕ) → ((i x : ℕ) → i < n → f i x ≡ g i x) → anew n f xs ≡ anew n g xs
 unfolding anew
 anew-cong zero f g xs h = refl
 anew-cong (suc n) f g [] h = refl
 anew-cong (suc n) f g (x ∷ xs) h = rw (h 0 x (omega arith), anew-cong n (λ i. f (suc i)) (λ i. g (suc i)) xs (λ i y l. h (suc i) y (omega arith)))
+
+-- what stays as it is, row by row, stays
+pub anew-same : (n : ℕ) (f : ℕ → ℕ → ℕ) (xs : List ℕ) → ((i x : ℕ) → f i x ≡ x) → anew n f xs ≡ xs
+unfolding anew
+anew-same zero f xs h = refl
+anew-same (suc n) f [] h = refl
+anew-same (suc n) f (x ∷ xs) h = rw (h 0 x, anew-same n (λ i. f (suc i)) xs (λ i. h (suc i)))

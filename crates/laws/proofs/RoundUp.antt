@@ -16,9 +16,6 @@ le-up a t h = omega (arith, lt-div-mul-add {a = a + (t - 1)} {b = t} h)
 pub up-mono : (a b t : ℕ) → 0 < t → a ≤ b → up a t ≤ up b t
 up-mono a b t h k = up-le a t (up b t) h (omega (arith, le-up b t h))
 
-pub up-add : (a b t : ℕ) → 0 < t → up (a + b) t ≤ up a t + up b t
-up-add a b t h = up-le (a + b) t (up a t + up b t) h (omega (arith, le-up a t h, le-up b t h))
-
 pub lt-up : (a t q : ℕ) → 0 < t → q * t < a → q < up a t
 lt-up a t q h k = lt-of-mul-lt-mul-right t (omega (arith, le-up a t h))
 

@@ -250,11 +250,3 @@ module _ (t : Table) (ms : List TakenTick) (f : Follows t fresh ms) (i : ℕ) (l
       let e : suc (q * T + (T - 1)) ≡ suc q * T = omega arith in
       let c = counts (q * T) (period-begins q (omega arith)) (T - 1) (omega arith) (omega arith) in
       rw (← e) (counts-anew (q * T + (T - 1)) (T - 1) (omega arith) c (omega arith))
-
-  -- so at tick x it finds the rest of x by the period
-  pub elapsed-is : (x : ℕ) → x < length ms → elapsedAt (tickAt ms x .found) i ≡ x % periodAt t i
-  elapsed-is x h =
-      let T = periodAt t i in
-      let e : x / T * T + x % T ≡ x = div-add-mod' x T in
-      let c = counts (x / T * T) (period-begins (x / T) (omega arith)) (x % T) (mod-lt x (omega arith)) (omega arith) in
-      rw e at c

@@ -4,8 +4,9 @@ use mathlib.Core.Path.{_≡_, refl, sym, ap, _∙_}
 use mathlib.Core.Bool.{true, false}
 use mathlib.Core.List.{List, [], _∷_, _++_, append-assoc}
 use mathlib.Core.Logic.{inl, inr}
-use Prim.Native.Nat.{ℕ, zero, suc, _+_, _-_, _≤_, _<_}
+use Prim.Native.Nat.{ℕ, suc, _+_, _-_, _≤_, _<_}
 use native.Mathlib.Omega.{arith}
+use native.Mathlib.Nat.{pos-of-ne-zero}
 use lib.Dec.{ltb}
 use lib.ListN.{length, set, replicate, length-append}
 use lib.Seq.{set-append-seam}
@@ -43,10 +44,6 @@ padded-more n z x xs h =
     go : (r q p : ℕ) → p ≡ suc r → q ≡ r → set (xs ++ replicate p z) (length xs) x ≡ (xs ++ (x ∷ [])) ++ replicate q z
     go r q p e f = rw (e, f, append-assoc xs (x ∷ []) (replicate r z)) (set-append-seam xs z (replicate r z) x)
 
-pub pos-of-ne : (m : ℕ) → (m ≡ 0 → ⊥) → 0 < m
-pos-of-ne zero h = absurd (h refl)
-pos-of-ne (suc m) h = omega arith
-
 -- a table that holds its rows and nothing else: its counts are theirs
 module _ (t : Table) (whole : t ≡ tableOf (rowsOf t)) where
   pub servers-count : length (rowsOf t .servers) ≡ t .nservers
@@ -65,7 +62,7 @@ module _ (t : Table) (whole : t ≡ tableOf (rowsOf t)) where
   no-server h = none (rowsOf t .servers) (omega (arith, servers-count))
 
   pub a-server : (t .nservers ≡ 0 → ⊥) → isNil (rowsOf t .servers) ≡ false
-  a-server h = not-nil (rowsOf t .servers) (omega (arith, servers-count, pos-of-ne (t .nservers) h))
+  a-server h = not-nil (rowsOf t .servers) (omega (arith, servers-count, pos-of-ne-zero h))
 
   pub no-task : t .ntasks ≤ 0 → isNil (rowsOf t .tasks) ≡ true
   no-task h = none (rowsOf t .tasks) (omega (arith, tasks-count))

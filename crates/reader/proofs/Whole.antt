@@ -1,5 +1,5 @@
--- A whole text, read line by line: what a loop at a line has yet to find out is what is said of the lines from there on.
--- At the end the rows are compared, and lines are told from rows. Assumes nothing.
+-- A whole text, read line by line: what a loop at a line has yet to find out is what is said of the lines from there
+-- on. At the end the rows are compared, and lines are told from rows. Assumes nothing.
 use mathlib.Core.Path.{_≡_, refl, sym, ap, _∙_, subst}
 use mathlib.Core.Bool.{true, false}
 use mathlib.Core.List.{List, [], _∷_, map}

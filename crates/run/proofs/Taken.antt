@@ -88,18 +88,3 @@ tick-ind P r mark n y =
     (λ e3. n CountSpent))
     (λ e2. n NoJobRan))
     (λ e1. n Unsound)
-
--- An answer tells which it was, and with it the whole outcome.
-pub released-is : (r : Run) (k j : ℕ) → releaseOf r k .answer ≡ Released j → releaseOf r k ≡ releaseTaken r k
-released-is r k j =
-    release-ind (λ a. a .answer ≡ Released j → a ≡ releaseTaken r k) r k
-    (λ why e. let z : _≡_ {A = ℕ} 0 1 = cc in absurd (omega arith))
-    (λ y e. refl)
-
-pub ticked-is : (r : Run) (mark : Bool) (a : TickAnswer) → tickOf r mark .answer ≡ Ticked a →
-    tickOf r mark ≡ tickedTaken r mark
-ticked-is r mark a =
-    tick-ind
-    (λ b. b .answer ≡ Ticked a → b ≡ tickedTaken r mark) r mark
-    (λ why e. let z : _≡_ {A = ℕ} 0 1 = cc in absurd (omega arith))
-    (λ y e. refl)

@@ -170,15 +170,6 @@ able-charged t z i l a d = go (highestAble t z) refl
     go Nothing e =
         absurd (clash (able t z i) a (highest-none (able t z) (priorityAt t) (t .nservers) e i l))
 
--- its premise, from the rules of a table
-pub servers-apart : (t : Table) → TableRules t → (a b : ℕ) → a < t .nservers → b < t .nservers →
-    priorityAt t a ≡ priorityAt t b → a ≡ b
-servers-apart t rules a b l m e = go (eqb a b) refl
-  where
-    go : (c : Bool) → eqb a b ≡ c → a ≡ b
-    go true q = eqb-true a b q
-    go false q = absurd (rules .servers-differ a b l m (eqb-false a b q) e)
-
 -- T4
 pub timed-able : (t : Table) (z : State) (i : ℕ) → isTimed (serverAt t i .kind) ≡ true →
     usedAt z i < capacityAt t (z .mode) i → able t z i ≡ true

@@ -1,40 +1,19 @@
--- How a loop makes a list anew, row by row, by a store or by none. Assumes nothing.
-use mathlib.Core.Path.{_≡_, refl, ap, sym, _∙_}
+-- How the loops of steps 2 and 4 make their counts anew, row by row. Assumes nothing.
+use mathlib.Core.Path.{_≡_}
 use mathlib.Core.Bool.{true, false}
-use mathlib.Core.List.{List, [], _∷_}
-use Prim.Native.Nat.{ℕ, zero, suc, _+_}
-use native.Mathlib.Omega.{arith}
+use mathlib.Core.List.{List}
+use Prim.Native.Nat.{ℕ, _+_}
 use native.Mathlib.Nat.{add-zero}
-use native.Mathlib.Numerals.{add-one}
 use lib.Dec.{eqb}
 use lib.ListN.{getD, set}
-use lib.Seq.{set-getD}
 use Rattle.laws.specs.Choice.{if_then_else_}
 use Rattle.laws.specs.Rows.{anew, sumBelow}
-use Rattle.laws.proofs.Anew.{anew-past}
+use Rattle.laws.proofs.Anew.{anew-row, anew-put, anew-stay}
 use Rattle.laws.proofs.Rows.{sum-next}
 use Rattle.table.specs.declared.Server.{Server}
 use Rattle.table.specs.declared.Task.{Task}
 use Rattle.table.specs.Rows.{noServer, noTask, isLow}
 use Rattle.scheduler.specs.Settle.{refilled, keptOf, goneOf}
-
-put-suc : (f : ℕ → ℕ → ℕ) (xs : List ℕ) (i d : ℕ) → set (anew i f xs) i (f i (getD xs i d)) ≡ anew (suc i) f xs
-unfolding anew
-put-suc f [] zero d = refl
-put-suc f [] (suc i) d = refl
-put-suc f (x ∷ xs) zero d = refl
-put-suc f (x ∷ xs) (suc i) d = ap (λ ys. f 0 x ∷ ys) (put-suc (λ j. f (suc j)) xs i d)
-
-module _ (f : ℕ → ℕ → ℕ) (xs ys : List ℕ) (i d : ℕ) (e : ys ≡ anew i f xs) where
-  -- row i is still as it was
-  pub anew-row : getD ys i d ≡ getD xs i d
-  anew-row = rw e (anew-past i f xs i d (omega arith))
-
-  pub anew-put : (v : ℕ) → f i (getD ys i d) ≡ v → set ys i v ≡ anew (i + 1) f xs
-  anew-put v h = rw (← h, anew-row, e, add-one i) (put-suc f xs i d)
-
-  pub anew-stay : f i (getD ys i d) ≡ getD ys i d → ys ≡ anew (i + 1) f xs
-  anew-stay h = sym (set-getD ys i d) ∙ anew-put (getD ys i d) h
 
 -- A row is refilled exactly if its elapsed count, as it was, equals its period.
 module _ (ss : List Server) (e₀ e xs ys : List ℕ) (i : ℕ) (p : e ≡ anew i (refilled ss e₀) e₀)

@@ -1,11 +1,11 @@
 -- Steps 2 to 4 on the parts of a state, and steps 1 to 4 put together. Assumes nothing.
 use mathlib.Core.Path.{_≡_, refl, sym}
 use mathlib.Core.Bool.{Bool, true, false}
-use mathlib.Core.List.{List, [], _∷_}
-use Prim.Native.Nat.{ℕ, zero, suc}
+use mathlib.Core.List.{List}
+use Prim.Native.Nat.{ℕ}
 use Rattle.laws.specs.Choice.{if_then_else_}
 use Rattle.laws.specs.Rows.{anew, anyBelow, sumBelow}
-use Rattle.laws.proofs.Anew.{anew-cong}
+use Rattle.laws.proofs.Anew.{anew-cong, anew-same}
 use Rattle.laws.proofs.Rows.{sum-cong, sum-zero}
 use Rattle.table.specs.declared.Mode.{Mode}
 use Rattle.table.specs.declared.Mode.the-variants.{N}
@@ -15,13 +15,6 @@ use Rattle.run.specs.declared.State.{State}
 use Rattle.run.specs.State.{waitingAt, withMode, withBudgets, withQueues, someWaits}
 use Rattle.run.specs.Tick.{step1, enters, drops, discards, step2, step3, step4, settle}
 use Rattle.scheduler.specs.Settle.{keptOf, goneOf, waitsAt, modeOn, refilled}
-
--- what stays as it is, row by row, stays
-pub anew-same : (n : ℕ) (f : ℕ → ℕ → ℕ) (xs : List ℕ) → ((i x : ℕ) → f i x ≡ x) → anew n f xs ≡ xs
-unfolding anew
-anew-same zero f xs h = refl
-anew-same (suc n) f [] h = refl
-anew-same (suc n) f (x ∷ xs) h = rw (h 0 x, anew-same n (λ i. f (suc i)) xs (λ i. h (suc i)))
 
 module _ (t : Table) (before : Mode) (s : State) where
   pub step2-entered : (w c : List ℕ) → enters before (s .mode) ≡ true → w ≡ anew (t .ntasks) (keptOf (t .tasks)) (s .waiting) →

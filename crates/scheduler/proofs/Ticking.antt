@@ -13,7 +13,7 @@ use lib.Seq.{ext-getD, getD-set-same, getD-set-other}
 use borrow.Author.Tests.{lt-ltb, le-ltb, ltb-true}
 use Rattle.laws.specs.Rows.{anew}
 use Rattle.laws.proofs.Choice.{le-or-lt, if-ind}
-use Rattle.laws.proofs.Anew.{length-anew, anew-at, anew-past}
+use Rattle.laws.proofs.Anew.{length-anew, anew-at, anew-past, anew-same}
 use Rattle.table.specs.declared.Table.{Table}
 use Rattle.table.specs.declared.Refusal.the-variants.{NoJobRan, CountSpent, Unsound}
 use Rattle.table.specs.Rows.{periodAt}
@@ -37,7 +37,7 @@ use Rattle.run.proofs.Tick.{one-same, charged-able, able-room, ran-front, elaps
 use Rattle.run.proofs.Steps.{same-or-not, one-past, settled-row}
 use Rattle.scheduler.specs.Settle.{RanJob, lastRow}
 use Rattle.scheduler.specs.Advance.{Low, Room, usedBy, runsBy}
-use Rattle.scheduler.proofs.Settling.{anew-same, SettledTo}
+use Rattle.scheduler.proofs.Settling.{SettledTo}
 
 -- one row is one more: as a definition has it, and as a store has it
 pub anew-one : (n j : ℕ) (xs : List ℕ) → j < n → anew n (λ i x. x + one j i) xs ≡ set xs j (getD xs j 0 + 1)

@@ -21,7 +21,7 @@ use Rattle.table.specs.declared.Task.{Task}
 use Rattle.table.specs.declared.Refusal.{Refusal}
 use Rattle.table.specs.declared.Refusal.the-variants.{AbsentRow, OtherPartition, NotTimed, OtherServer, Falling, Malformed as MalformedWhy, OutOfBounds, NotWhole}
 use Rattle.table.specs.Rows.{Rows, noRows, noServer, noTask}
-use Rattle.table.specs.Rules.{tickKeeps, serverKeeps, taskKeeps, taskFits, rowsThere, samePartition, degradedTimed, timedAtHome, rising}
+use Rattle.table.specs.Rules.{serverKeeps, taskKeeps, taskFits, rowsThere, samePartition, degradedTimed, timedAtHome, rising}
 use Rattle.text.specs.declared.ServerLine.{ServerLine}
 use Rattle.text.specs.declared.TaskLine.{TaskLine}
 use Rattle.text.specs.declared.Line.{Line}

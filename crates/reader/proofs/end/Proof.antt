@@ -1,9 +1,10 @@
 -- `reader::end` meets its contract: without a task a line is missing, else the rows are compared. Assumes nothing.
 use mathlib.Core.Path.{ap, _∙_}
 use native.Mathlib.Omega.{arith}
+use native.Mathlib.Nat.{pos-of-ne-zero}
 use Rattle.table.specs.Rows.{rowsOf}
 use Rattle.text.specs.Read.{shown}
-use Rattle.reader.proofs.Growing.{no-task, a-task, pos-of-ne}
+use Rattle.reader.proofs.Growing.{no-task, a-task}
 use Rattle.reader.proofs.Whole.{ended-none, ended-some}
 use borrow.Author.Needs.{needs}
 use Rattle.reader.proofs.end.Statement.{statement}
@@ -26,7 +27,7 @@ returns-2 : tie.Need-returns-2
 returns-2 c =
     let start = c .before .before .before in
     let t = start .args .t in
-    let some = a-task t (start .pre .whole) (pos-of-ne (t .ntasks) (c .before .if1 .left)) in
+    let some = a-task t (start .pre .whole) (pos-of-ne-zero (c .before .if1 .left)) in
     c .compare .ensures ∙ ap shown (ended-some (start .args .n) (rowsOf t) some)
 
 pub end-spec : {M : Type 1} → statement M

@@ -1,6 +1,5 @@
 -- `reader::read_table` meets its contract: t holds the rows of the lines before line n, which begins at `at`, so what
--- the text says is
--- what is said from there on. Assumes nothing.
+-- the text says is what is said from there on. Assumes nothing.
 use mathlib.Core.Path.{_≡_, sym, ap, subst, _∙_}
 use Prim.Native.Nat.{_+_, _-_, _≤_, _<_}
 use native.Mathlib.Omega.{arith}

@@ -1,5 +1,5 @@
--- `writer::in_micros` meets its contract: ticks have 32 bits and a tick has at most 10,000 microseconds.
--- Assumes nothing.
+-- `writer::in_micros` meets its contract: ticks have 32 bits and a tick has at most 10,000 microseconds. Assumes
+-- nothing.
 use Prim.Native.Nat.{_≤_}
 use native.Mathlib.Omega.{arith}
 use native.Mathlib.Nat.{mul-le-mul}

@@ -1,5 +1,5 @@
--- `writer::write_table` meets its contract: 13 before 12, and the text is made before the lent room changes.
--- Assumes nothing.
+-- `writer::write_table` meets its contract: 13 before 12, and the text is made before the lent room changes. Assumes
+-- nothing.
 use mathlib.Core.Path.{_≡_, sym, _∙_}
 use mathlib.Core.Bool.{true}
 use Prim.Native.Nat.{ℕ, _≤_}

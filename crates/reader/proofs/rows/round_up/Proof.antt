@@ -1,6 +1,5 @@
 -- `reader::rows::round_up` meets its contract, and no sum passes 64 bits: where something is left over, the quotient is
--- below u.
--- Assumes nothing.
+-- below u. Assumes nothing.
 use native.Mathlib.Omega.{arith}
 use Rattle.reader.proofs.RoundedUp.{up-even, up-odd, odd-below}
 use borrow.Author.Needs.{needs}

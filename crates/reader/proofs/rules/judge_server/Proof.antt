@@ -1,5 +1,5 @@
--- `reader::rules::judge_server` meets its contract: where the line stands, then its bounds, then its whole ticks.
--- Below the first line the tick is from 1 to 10,000. Assumes nothing.
+-- `reader::rules::judge_server` meets its contract: where the line stands, then its bounds, then its whole ticks. Below
+-- the first line the tick is from 1 to 10,000. Assumes nothing.
 use mathlib.Core.Path.{sym, _∙_}
 use borrow.Author.Tests.{not-true, not-false}
 use Rattle.table.specs.Rows.{rowsOf}

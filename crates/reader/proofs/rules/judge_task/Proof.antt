@@ -1,5 +1,5 @@
--- `reader::rules::judge_task` meets its contract: where the line stands, then its bounds, then its rows.
--- Below a server line the tick is from 1 to 10,000. Assumes nothing.
+-- `reader::rules::judge_task` meets its contract: where the line stands, then its bounds, then its rows. Below a server
+-- line the tick is from 1 to 10,000. Assumes nothing.
 use mathlib.Core.Path.{sym, _∙_}
 use native.Mathlib.Omega.{arith}
 use borrow.Author.Tests.{not-true, not-false}

@@ -1,6 +1,5 @@
 -- `reader::rules::task_fault` meets its contract: a row that is absent decides, else what the task asks of the two
--- rows.
--- Assumes nothing.
+-- rows. Assumes nothing.
 use mathlib.Core.Path.{ap, _∙_}
 use Prim.Native.Nat.{_≤_, _<_}
 use native.Mathlib.Omega.{arith}

@@ -3,8 +3,7 @@ use mathlib.Core.Path.{_≡_, refl}
 use Prim.Native.Nat.{_+_, _≤_, _-_}
 use native.Mathlib.Omega.{arith}
 use Rattle.laws.specs.Rows.{anew}
-use Rattle.laws.proofs.Anew.{anew-none}
-use Rattle.scheduler.proofs.Rows.{anew-row, anew-put}
+use Rattle.laws.proofs.Anew.{anew-none, anew-row, anew-put}
 use Rattle.scheduler.proofs.advance.age.Statement.{statement}
 use Rattle.scheduler.proofs.advance.age.Tie as tie
 
