@@ -39,7 +39,8 @@ fn round_up(a: u32, t: u32) -> u32
     (a + (t - 1)) / t
 }
 
-// How many ticks late a server may begin in one period and still begin early in the next.
+// "the deferrable server's late-then-early term T - C": an event server may be charged late in one period and early in the
+// next; a timed one may not.
 fn late_of(kind: Kind, period: u32, capacity: u32) -> u32
     requires { ⌜ capacity ≤ period ⌝ }
     ensures { λ r. ⌜ r ≡ lateOf kind period capacity ⌝ }
