@@ -1,4 +1,5 @@
-pub mod Demand
+pub mod Columns
+pub mod Delays
 pub mod Interference
 pub mod Least
 pub mod Verdicts

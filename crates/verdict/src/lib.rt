@@ -2,19 +2,16 @@
 
 ghost use mathlib.Core.Path.{_≡_};
 ghost use mathlib.Core.Bool.{true};
-ghost use Prim.Native.Nat.{_+_, _≤_, _<_};
-ghost use lib.Dec.{ltb};
-ghost use Rattle.laws.specs.Choice.{if_then_else_};
+ghost use Prim.Native.Nat.{_≤_, _<_};
 ghost use Rattle.laws.specs.Search.{least};
 ghost use Rattle.laws.specs.RoundUp.{up};
-ghost use Rattle.table.specs.Rows.{inMode, periodAt, capacityAt};
 ghost use Rattle.table.specs.Rules.{tableKeeps};
-ghost use Rattle.verdict.specs.Verdict.{demand, interference, meets, responseAt, verdictOf};
+ghost use Rattle.verdict.specs.Inner.{lateOf, interferenceIn, meetsIn, Columns, Delaying};
+ghost use Rattle.verdict.specs.Verdict.{responseAt, verdictOf};
 use laws::Found;
 use table::Kind;
 use table::Mode;
 use table::Refusal;
-use table::Server;
 use table::Table;
 use units::Ticks;
 
@@ -25,75 +22,102 @@ pub enum Verdict {
     No(Refusal),
 }
 
-fn wide(x: u32) -> u64
-    ensures { λ r. ⌜ r ≡ x ⌝ }
-{
-    x as u64
+// The servers that delay a row in a mode, one after the other: those of higher priority that have capacity. `late` has the
+// late-then-early term of each. They are numbers in columns, made once and lent, since a climb may take a million steps.
+struct Higher {
+    count: usize,
+    periods: [u32; 32],
+    capacities: [u32; 32],
+    late: [u32; 32],
 }
 
 // The round-up of a / t.
-fn round_up(a: u64, t: u64) -> u64
+fn round_up(a: u32, t: u32) -> u32
     requires { ⌜ (0 < t) × (t ≤ 1000000) × (a ≤ 2000000) ⌝ }
     ensures { λ r. ⌜ r ≡ up a t ⌝ }
 {
     (a + (t - 1)) / t
 }
 
-// What a server of this kind, period and capacity asks of r ticks. One without capacity asks nothing: a climb in small steps
-// would else spend its time on dividing for it.
-fn demand_of(kind: Kind, period: u64, capacity: u64, r: u64) -> u64
-    requires { ⌜ (0 < period) × (period ≤ 1000000) × (capacity ≤ period) × (r ≤ 1000000) ⌝ }
-    ensures { λ d. ⌜ d ≡ demand kind period capacity r ⌝ }
+// "the deferrable server's late-then-early term T - C": an event server may be charged late in one period and early in the
+// next; a timed one may not.
+fn late_of(kind: Kind, period: u32, capacity: u32) -> u32
+    requires { ⌜ capacity ≤ period ⌝ }
+    ensures { λ r. ⌜ r ≡ lateOf kind period capacity ⌝ }
 {
-    if capacity == 0 {
-        return 0;
-    }
     match kind {
-        Kind::Timed => round_up(r, period) * capacity,
-        Kind::Event => round_up(r + (period - capacity), period) * capacity,
+        Kind::Timed => 0,
+        Kind::Event => period - capacity,
     }
 }
 
-// What a server asks of r ticks of one of lower priority; one that is not higher asks nothing.
-fn asked_by(s: Server, priority: u8, m: Mode, r: u64) -> u64
-    requires { ⌜ (0 < s .period .0) × (s .period .0 ≤ 1000000) × (inMode (s .capacity) m ≤ s .period .0) × (r ≤ 1000000) ⌝ }
-    ensures { λ d. ⌜ d ≡ (if ltb priority (s .priority) then demand (s .kind) (s .period .0) (inMode (s .capacity) m) r else 0) ⌝ }
-{
-    let kind = s.kind;
-    let capacity = s.capacity;
-    if priority < s.priority {
-        demand_of(kind, wide(s.period.0), wide(table::in_mode(capacity, m)), r)
-    } else {
-        0
-    }
-}
-
-// I(r): what the servers of higher priority ask of r ticks.
-fn interference_of(t: Table, m: Mode, row: usize, r: u64) -> u64
-    requires { ⌜ (tableKeeps t ≡ true) × (row < t .nservers) × (r ≤ 1000000) ⌝ }
-    ensures { λ d. ⌜ d ≡ interference t m row r ⌝ }
+// The servers that delay a row.
+fn higher_than(t: Table, row: usize, m: Mode) -> Higher
+    requires { ⌜ (tableKeeps t ≡ true) × (row < t .nservers) ⌝ }
+    ensures { λ h. ⌜ Delaying t m row h ⌝ }
 {
     let priority = t.servers[row].priority;
     let n = t.nservers;
-    let mut sum: u64 = 0;
-    let mut i = 0;
-    while i < n {
+    let mut periods = [0u32; 32];
+    let mut capacities = [0u32; 32];
+    let mut late = [0u32; 32];
+    let mut count = 0;
+    for i in 0..n {
         let s = t.servers[i];
-        sum += asked_by(s, priority, m, r);
-        i += 1;
+        let c = s.capacity;
+        let kind = s.kind;
+        let period = s.period.0;
+        let capacity = table::in_mode(c, m);
+        if s.priority <= priority || capacity == 0 {
+            continue;
+        }
+        periods[count] = period;
+        capacities[count] = capacity;
+        late[count] = late_of(kind, period, capacity);
+        count += 1;
+    }
+    Higher {
+        count,
+        periods,
+        capacities,
+        late,
+    }
+}
+
+// I(r): what the servers of these columns ask of r ticks.
+fn interference_in<'a>(
+    count: usize,
+    periods: &'a [u32; 32],
+    capacities: &'a [u32; 32],
+    late: &'a [u32; 32],
+    r: u32,
+) -> u32
+    requires { ⌜ Columns count (now periods) (now capacities) (now late) × (r ≤ 1000000) ⌝ }
+    ensures { λ d. ⌜ d ≡ interferenceIn count (now (periods .entry)) (now (capacities .entry)) (now (late .entry)) r ⌝ }
+{
+    let mut sum: u32 = 0;
+    for i in 0..count {
+        sum += round_up(r + late[i], periods[i]) * capacities[i];
     }
     sum
 }
 
 // The least r from 1 to the period that meets the inequality. I never falls as r grows, so what is below C + I(r) misses
 // where r does: the next number to try is C + I(r) itself.
-fn climb(t: Table, m: Mode, row: usize, capacity: u64, period: u64) -> Found
-    requires { ⌜ (tableKeeps t ≡ true) × (row < t .nservers) × (capacity ≡ capacityAt t m row) × (period ≡ periodAt t row) ⌝ }
-    ensures { λ r. ⌜ r ≡ least (meets t m row) 1 (periodAt t row) ⌝ }
+fn climb<'a>(
+    count: usize,
+    periods: &'a [u32; 32],
+    capacities: &'a [u32; 32],
+    late: &'a [u32; 32],
+    capacity: u32,
+    period: u32,
+) -> Found
+    requires { ⌜ Columns count (now periods) (now capacities) (now late) × (capacity ≤ period) × (period ≤ 1000000) ⌝ }
+    ensures { λ r. ⌜ r ≡ least (meetsIn count (now (periods .entry)) (now (capacities .entry)) (now (late .entry)) capacity) 1 period ⌝ }
 {
-    let mut r: u64 = 1;
+    let mut r: u32 = 1;
     while r <= period {
-        let next = capacity + interference_of(t, m, row, r);
+        let next = capacity + interference_in(count, periods, capacities, late, r);
         if next <= r {
             return Found::At(r as usize);
         }
@@ -114,7 +138,15 @@ fn response(t: Table, row: usize, m: Mode) -> Found
     if capacity == 0 {
         return Found::At(0);
     }
-    climb(t, m, row, wide(capacity), wide(period))
+    let h = higher_than(t, row, m);
+    climb(
+        h.count,
+        &h.periods,
+        &h.capacities,
+        &h.late,
+        capacity,
+        period,
+    )
 }
 
 // The verdict for a server row in a mode: 13 first, then 11.

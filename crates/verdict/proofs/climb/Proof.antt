@@ -1,77 +1,65 @@
 -- `verdict::climb` meets its contract. The loop's invariant: no number from 1 on and below r meets the inequality; the climbing
 -- law keeps it. The measure is what is left of the period. Assumes nothing.
-use mathlib.Core.Path.{sym, _∙_}
 use Prim.Native.Nat.{suc, _-_, _≤_}
 use native.Mathlib.Omega.{arith}
-use lib.ListN.{length-map}
+use borrow.Author.Needs.{needs}
 use Rattle.laws.proofs.Climb.{NonePasses, climb-start}
-use Rattle.table.specs.Parts.{Sized}
-use Rattle.table.proofs.Rules.{ServerRules, table-rules}
-use Rattle.verdict.specs.Verdict.{meets}
-use Rattle.verdict.proofs.Interference.{interference-le}
+use Rattle.verdict.specs.Inner.{meetsIn}
+use Rattle.verdict.proofs.Columns.{in-le}
 use Rattle.verdict.proofs.Least.{next-tried, found-least, found-none}
 use Rattle.verdict.proofs.climb.Statement.{statement}
 use Rattle.verdict.proofs.climb.Tie as tie
 
 abbrev Inv-loop : tie.InvT-loop
-Inv-loop t m row capacity period r₀ r = (1 ≤ r) × NonePasses (meets t m row) 1 r
+Inv-loop count periods capacities late capacity period r₀ r =
+    (1 ≤ r) × NonePasses (meetsIn count periods capacities late capacity) 1 r
 
 abbrev μ-loop : tie.MeasureT-loop
-μ-loop t m row capacity period r₀ r = suc period - r
-
--- the table's array has its length, and the row keeps its bounds
-size : (c : tie.Start Inv-loop μ-loop) → Sized (c .args .t)
-size c =
-    record {
-      servers = sym (length-map (c .args .t .servers) _) ∙ c .good .0 .1 .1 .1 .1 .1 .0 .1 .0 .1;
-      tasks = sym (length-map (c .args .t .tasks) _) ∙ c .good .0 .1 .1 .1 .1 .1 .1 .0 .1 .0 .1;
-    }
-
-row-rules : (c : tie.Start Inv-loop μ-loop) → ServerRules (c .args .t) (c .args .row)
-row-rules c = table-rules (c .args .t) (size c) (c .pre .0) .server (c .args .row) (c .pre .1)
-
-short : (c : tie.Start Inv-loop μ-loop) → c .args .period ≤ 1000000
-short c = omega (arith, row-rules c .period-high)
-
-small : (c : tie.Start Inv-loop μ-loop) → c .args .capacity ≤ c .args .period
-small c = omega (arith, row-rules c .capacity (c .args .m))
+μ-loop count periods capacities late capacity period r₀ r = suc period - r
 
 loop-holds : tie.Need-loop-holds Inv-loop μ-loop
-loop-holds c = (omega arith, climb-start (meets (c .args .t) (c .args .m) (c .args .row)) 1)
+loop-holds c =
+    let a = c .args in
+    (omega arith, climb-start (meetsIn (a .count) (a .periods .now) (a .capacities .now) (a .late .now) (a .capacity)) 1)
 
-interference-of-requires : tie.Need-interference-of-requires Inv-loop μ-loop
-interference-of-requires c κs = let b = c .before .before in (b .pre .0, b .pre .1, omega (arith, short b))
+interference-in-requires : tie.Need-interference-in-requires Inv-loop μ-loop
+interference-in-requires c κs = let b = c .before .before in (b .pre .0, omega (arith, b .pre .2))
 
 add-next : tie.Need-add-next Inv-loop μ-loop
 add-next c =
     let b = c .before .before .before in
-    let r = c .before .before .loop .r in
+    let a = b .args in
     record {
       fits =
           omega (
             arith,
-            c .interference-of .ensures,
-            short b,
-            small b,
-            interference-le (b .args .t) (size b) (b .pre .0) (b .args .m) (b .args .row) r (omega (arith, short b)),
+            c .interference-in .ensures,
+            b .pre .0 .few,
+            b .pre .1,
+            b .pre .2,
+            in-le (a .periods .now) (a .capacities .now) (a .late .now) (a .count) (b .pre .0) (c .before .before .loop .r) (a .count)
+                (omega (arith, b .pre .2, c .before .loop-test .taken))
+                (omega arith),
           );
     }
 
+cast-t11 : tie.Need-cast-t11 Inv-loop μ-loop
+cast-t11 c = search needs
+
 returns : tie.Need-returns Inv-loop μ-loop
 returns c =
-    let b = c .before .before .before .before in
+    let a = c .before .before .before .before .args in
     let l = c .before .before .before .loop in
     found-least
-    (b .args .t)
-    (b .args .m)
-    (b .args .row)
+    (a .count)
+    (a .periods .now)
+    (a .capacities .now)
+    (a .late .now)
+    (a .capacity)
     (l .r)
-    (b .args .capacity)
-    (c .before .interference-of .result)
-    (b .args .period)
-    (b .pre .2)
-    (c .before .interference-of .ensures)
-    (b .pre .3)
+    (c .before .interference-in .result)
+    (a .period)
+    (c .before .interference-in .ensures)
     (l .inv .0)
     (omega arith)
     (omega arith)
@@ -83,27 +71,27 @@ loop-less c = omega arith
 loop-again : tie.Need-loop-again Inv-loop μ-loop
 loop-again c =
     let b = c .before .before .before .before in
+    let a = b .args in
     let l = c .before .before .before .loop in (
       omega arith,
       next-tried
-          (b .args .t)
-          (b .args .m)
-          (b .args .row)
-          (size b)
+          (a .count)
+          (a .periods .now)
+          (a .capacities .now)
+          (a .late .now)
+          (a .capacity)
           (b .pre .0)
           (l .r)
-          (b .args .capacity)
-          (c .before .interference-of .result)
-          (b .pre .2)
-          (c .before .interference-of .ensures)
+          (c .before .interference-in .result)
+          (c .before .interference-in .ensures)
           (l .inv .1),
     )
 
 returns-2 : tie.Need-returns-2 Inv-loop μ-loop
 returns-2 c =
-    let b = c .before .before in
+    let a = c .before .before .args in
     let l = c .before .loop in
-    found-none (b .args .t) (b .args .m) (b .args .row) (l .r) (b .args .period) (b .pre .3) (omega arith) (l .inv .1)
+    found-none (a .count) (a .periods .now) (a .capacities .now) (a .late .now) (a .capacity) (l .r) (a .period) (omega arith) (l .inv .1)
 
 pub climb-spec : {M : Type 1} → statement M
 climb-spec =
@@ -112,8 +100,9 @@ climb-spec =
     Inv-loop
     μ-loop
     loop-holds
-    interference-of-requires
+    interference-in-requires
     add-next
+    cast-t11
     returns
     loop-less
     loop-again

@@ -34,20 +34,25 @@ returns c =
     let a = c .before .before .before .before .args in
     response-zero (a .t1) (a .m) (a .row) (c .before .in-mode .result) (c .before .in-mode .ensures) (c .if1 .taken)
 
-wide-requires : tie.Need-wide-requires
-wide-requires c κs = search needs
-
-wide-requires-2 : tie.Need-wide-requires-2
-wide-requires-2 c κs = search needs
+higher-than-requires : tie.Need-higher-than-requires
+higher-than-requires c κs = search needs
 
 climb-requires : tie.Need-climb-requires
-climb-requires c κs = search needs
+climb-requires c κs =
+    let d = c .before .before .before .before in
+    let e = d .before .before in
+    let b = e .before .before .before in
+    let row = table-rules (b .args .t1) (size b) (b .pre .0) .server (b .args .row) (b .pre .1) in
+    (d .higher-than .ensures .columns, omega (arith, e .in-mode .ensures, row .capacity (b .args .m)), row .period-high)
 
 returns-2 : tie.Need-returns-2
 returns-2 c =
-    let a = c .before .before .before .before .before .before .before .args in
-    let d = c .before .before .before .before in
-    response-else (a .t1) (a .m) (a .row) (d .in-mode .result) (c .climb .result) (d .in-mode .ensures) (c .before .before .before .if1 .left) (c .climb .ensures)
+    let d = c .before .before .before .before .before in
+    let e = d .before .before in
+    let a = e .before .before .before .args in
+    response-else (a .t1) (a .m) (a .row) (e .in-mode .result) (d .higher-than .result) (c .climb .result) (e .in-mode .ensures) (d .before .if1 .left)
+    (d .higher-than .ensures)
+    (c .climb .ensures)
 
 pub response-spec : {M : Type 1} → statement M
 response-spec =
@@ -57,7 +62,6 @@ response-spec =
     element-copy-out-s
     in-mode-requires
     returns
-    wide-requires
-    wide-requires-2
+    higher-than-requires
     climb-requires
     returns-2)
