@@ -1,4 +1,4 @@
--- A state put together from its head and the counts of its rows.
+-- A state in parts: its head and the counts of its rows; and what of a table is not its rows.
 use mathlib.Core.List.{List}
 use Prim.Native.Nat.{ℕ}
 use Rattle.table.specs.declared.Mode.{Mode}

@@ -1,5 +1,4 @@
--- The rows of a table as plain numbers, a column after the other: which rows stand in such sheets. Only contracts of inner
--- functions cite this.
+-- The rows of a table as plain numbers, a column after the other: which rows stand in such sheets.
 use mathlib.Core.List.{List, [], _∷_}
 use Prim.Native.Nat.{ℕ, zero, suc, _+_}
 use lib.ListN.{getD}
