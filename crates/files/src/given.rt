@@ -2,22 +2,12 @@
 
 use table::Table;
 use text::Reading;
+ghost use Rattle.files.specs.Answers.{Handed};
 
 // Whether there is a table, and it.
 pub struct Given {
     pub there: bool,
     pub table: Table,
-}
-
-fn is_taken(a: Reading) -> bool {
-    match a {
-        Reading::Taken => true,
-        Reading::Refused { why: _, line: _ } => false,
-        Reading::Equal {
-            first: _,
-            second: _,
-        } => false,
-    }
 }
 
 // "A refused table prints only" its one line.
@@ -28,7 +18,9 @@ fn say_refused(a: Reading) {
 }
 
 // The table in an open file; where it is refused, that is answered.
-pub fn take_table(fd: i32) -> Given {
+pub fn take_table(fd: i32) -> Given
+    ensures { λ r. ⌜ Handed r ⌝ }
+{
     let mut buf = [0u8; 16385];
     let got = crate::take_whole(fd, &mut buf);
     let n = got.len;
@@ -41,12 +33,12 @@ pub fn take_table(fd: i32) -> Given {
             table,
         };
     }
-    if !is_taken(answer) {
-        say_refused(answer);
-        return Given {
-            there: false,
-            table,
-        };
+    if let Reading::Taken = answer {
+        return Given { there: true, table };
     }
-    Given { there: true, table }
+    say_refused(answer);
+    Given {
+        there: false,
+        table,
+    }
 }
