@@ -1,7 +1,7 @@
-use mathlib.Core.Path.{_≡_}
-use Prim.Native.Nat.{_≤_, _<_, _-_, _+_, _*_}
-use lib.ListN.{length}
+-- `states::take_lines` is safe and ends: the line looked at begins within the text, after the block that it belongs to. Assumes nothing.
+use Prim.Native.Nat.{_≤_, _-_}
 use native.Mathlib.Omega.{arith}
+use lib.ListN.{length}
 use borrow.Author.Needs.{needs}
 use Rattle.states.proofs.take_lines.Statement.{statement}
 use Rattle.states.proofs.take_lines.Tie as tie

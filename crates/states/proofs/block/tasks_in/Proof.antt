@@ -1,7 +1,8 @@
+-- `states::block::tasks_in` is safe and ends: the row filled stays below the rows there are. Assumes nothing.
 use mathlib.Core.Path.{_≡_}
-use Prim.Native.Nat.{_≤_, _<_, _-_, _+_, _*_}
-use lib.ListN.{length}
+use Prim.Native.Nat.{_≤_, _-_}
 use native.Mathlib.Omega.{arith}
+use lib.ListN.{length}
 use borrow.Author.Needs.{needs}
 use Rattle.states.proofs.block.tasks_in.Statement.{statement}
 use Rattle.states.proofs.block.tasks_in.Tie as tie

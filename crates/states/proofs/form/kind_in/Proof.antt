@@ -1,6 +1,5 @@
-use mathlib.Core.Path.{_≡_}
-use Prim.Native.Nat.{_≤_, _<_, _-_, _+_, _*_}
-use lib.ListN.{length}
+-- `states::form::kind_in` is safe and ends: the kinds are counted up. Assumes nothing.
+use Prim.Native.Nat.{_≤_, _-_}
 use native.Mathlib.Omega.{arith}
 use borrow.Author.Needs.{needs}
 use Rattle.states.proofs.form.kind_in.Statement.{statement}

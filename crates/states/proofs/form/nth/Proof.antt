@@ -1,8 +1,7 @@
-use mathlib.Core.Path.{_≡_}
-use Prim.Native.Nat.{_≤_, _<_, _-_, _+_, _*_}
-use lib.ListN.{length}
+-- `states::form::nth` is safe and ends: each turn begins a later line. Assumes nothing.
+use Prim.Native.Nat.{_≤_, _-_, _+_}
 use native.Mathlib.Omega.{arith}
-use borrow.Author.Needs.{needs}
+use lib.ListN.{length}
 use Rattle.states.proofs.form.nth.Statement.{statement}
 use Rattle.states.proofs.form.nth.Tie as tie
 
