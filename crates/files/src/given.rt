@@ -3,6 +3,7 @@
 use table::Table;
 use text::LONGEST;
 use text::Reading;
+ghost use Rattle.files.specs.Answers.{Handed};
 
 // One byte more than a text may have, so that a longer file shows.
 const ROOM: usize = LONGEST + 1;
@@ -13,17 +14,6 @@ pub struct Given {
     pub table: Table,
 }
 
-fn is_taken(a: Reading) -> bool {
-    match a {
-        Reading::Taken => true,
-        Reading::Refused { why: _, line: _ } => false,
-        Reading::Equal {
-            first: _,
-            second: _,
-        } => false,
-    }
-}
-
 // "A refused table prints only" its one line.
 fn say_refused(a: Reading) {
     let mut line = [0u8; 64];
@@ -32,7 +22,9 @@ fn say_refused(a: Reading) {
 }
 
 // The table in an open file; where it is refused, that is answered.
-pub fn take_table(fd: i32) -> Given {
+pub fn take_table(fd: i32) -> Given
+    ensures { λ r. ⌜ Handed r ⌝ }
+{
     let mut buf = [0u8; ROOM];
     let got = crate::take_whole(fd, &mut buf);
     let n = got.len;
@@ -45,12 +37,12 @@ pub fn take_table(fd: i32) -> Given {
             table,
         };
     }
-    if !is_taken(answer) {
-        say_refused(answer);
-        return Given {
-            there: false,
-            table,
-        };
+    if let Reading::Taken = answer {
+        return Given { there: true, table };
     }
-    Given { there: true, table }
+    say_refused(answer);
+    Given {
+        there: false,
+        table,
+    }
 }

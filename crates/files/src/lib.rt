@@ -1,5 +1,5 @@
-// Files as the programs take them: opened by argument, read whole or in pieces, and what is said where that fails. What a file holds no
-// contract can say; how much of the lent bytes is the file's is said.
+// Files as the programs take them: opened by argument, read whole or in pieces, and what is said where that fails. What the system answers
+// no contract can say; what follows whatever it is stands in specs/Answers.antt.
 
 pub mod given;
 
@@ -7,6 +7,7 @@ use libc::STDERR_FILENO;
 use libc::STDIN_FILENO;
 use libc::STDOUT_FILENO;
 ghost use Rattle.io.specs.Counts.{Counts};
+ghost use Rattle.files.specs.Answers.{Called, Descriptor, Out, First};
 
 // How much was read, and whether all of it could be.
 pub struct Taken {
@@ -15,7 +16,9 @@ pub struct Taken {
 }
 
 // Whether the program was called with this many words, its name among them; if not, how to call it is said.
-pub fn called_with(words: usize, usage: &[u8]) -> bool {
+pub fn called_with(words: usize, usage: &[u8]) -> bool
+    ensures { λ r. ⌜ Called words r ⌝ }
+{
     if os::arg_count() == words {
         return true;
     }
@@ -25,8 +28,10 @@ pub fn called_with(words: usize, usage: &[u8]) -> bool {
     false
 }
 
-// The file that argument i names, `-` being standard input. Below 0 where it cannot be opened, which is said.
-pub fn open_argument(i: usize) -> i32 {
+// The file that argument i names, `-` being standard input. -1 where it cannot be opened, which is said.
+pub fn open_argument(i: usize) -> i32
+    ensures { λ r. ⌜ Descriptor r ⌝ }
+{
     let mut path = io::buffer();
     let n = os::arg(i, &mut path);
     if os::errno() != 0 {
@@ -41,6 +46,7 @@ pub fn open_argument(i: usize) -> i32 {
     let fd = os::open_read(&path[..n]);
     if fd < 0 {
         os::fail(&path[..n]);
+        return -1;
     }
     fd
 }
@@ -83,7 +89,12 @@ pub fn take_piece(fd: i32, buf: &mut [u8]) -> Taken
 }
 
 // Whether all of the text was written to standard output; if not, that is said.
-pub fn write_out(text: &[u8]) -> bool {
+pub fn write_out(text: &[u8]) -> bool
+    ensures { λ r. ⌜ Out (now (text .entry)) r ⌝ }
+{
+    if text.len() == 0 {
+        return true;
+    }
     if io::write_all(STDOUT_FILENO, text) {
         return true;
     }
@@ -92,7 +103,9 @@ pub fn write_out(text: &[u8]) -> bool {
 }
 
 // The same of the first n bytes of some room.
-pub fn write_first(room: &[u8], n: usize) -> bool {
+pub fn write_first(room: &[u8], n: usize) -> bool
+    ensures { λ r. ⌜ First (now (room .entry)) n r ⌝ }
+{
     if room.len() < n {
         return false;
     }

@@ -1,12 +1,14 @@
--- `files::write_first` is safe: the part that is written ends within the room. Assumes nothing.
-use mathlib.Core.Path.{sym}
+-- `files::write_first` meets its contract: the part that is written ends within the room, and it has n bytes. Assumes nothing.
+use mathlib.Core.Path.{_≡_, refl, sym, _∙_}
+use Prim.Native.Nat.{_<_}
+use native.Mathlib.Omega.{arith}
 use lib.Seq.{length-take-le}
 use borrow.Author.Needs.{needs}
 use Rattle.files.proofs.write_first.Statement.{statement}
 use Rattle.files.proofs.write_first.Tie as tie
 
 returns : tie.Need-returns
-returns c = search needs
+returns c = record { beyond = λ h. refl; nothing = λ none. absurd (omega arith) }
 
 slice-aggregate-write-out : tie.Need-slice-aggregate-write-out
 slice-aggregate-write-out c =
@@ -17,7 +19,13 @@ write-out-requires : tie.Need-write-out-requires
 write-out-requires c κs = search needs
 
 returns-2 : tie.Need-returns-2
-returns-2 c = search needs
+returns-2 c =
+    let s = c .before .before .before .before .args in
+    let within = c .before .before .if1 .left in
+    record {
+      beyond = λ h. absurd (omega arith);
+      nothing = λ none. c .write-out .ensures (length-take-le (s .n) (s .room .now) within ∙ none);
+    }
 
 pub write-first-spec : {M : Type 1} → statement M
 write-first-spec =
