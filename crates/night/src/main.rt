@@ -18,7 +18,7 @@ struct Some {
 }
 
 fn answer_some(n: Night, bytes: &[u8]) -> Some {
-    let mut room = io::large_buffer();
+    let mut room = [0u8; 65536];
     let r = n.run;
     let h = n.held;
     let s = scheduler::serve::serve(r, h, bytes, &mut room);
@@ -63,7 +63,7 @@ fn answer_last(n: Night) {
 
 // Reads once and answers; the night goes on as long as something was read.
 fn next_piece(n: Night, fd: i32) -> Night {
-    let mut buf = io::large_buffer();
+    let mut buf = [0u8; 16384];
     let got = files::take_piece(fd, &mut buf);
     let k = got.len;
     let mut night = n;
@@ -89,7 +89,18 @@ fn answer_all(n: Night, fd: i32) {
     }
 }
 
-fn answer_night(table: i32, events: i32) {
+fn main() {
+    if !files::called_with(3, b"night TABLE EVENTS") {
+        return;
+    }
+    let table = files::open_argument(1);
+    if table < 0 {
+        return;
+    }
+    let events = files::open_argument(2);
+    if events < 0 {
+        return;
+    }
     let given = files::given::take_table(table);
     if !given.there {
         return;
@@ -108,19 +119,4 @@ fn answer_night(table: i32, events: i32) {
         },
         events,
     );
-}
-
-fn main() {
-    if !files::called_with(3, b"night TABLE EVENTS") {
-        return;
-    }
-    let table = files::open_argument(1);
-    if table < 0 {
-        return;
-    }
-    let events = files::open_argument(2);
-    if events < 0 {
-        return;
-    }
-    answer_night(table, events);
 }

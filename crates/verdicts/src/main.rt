@@ -1,37 +1,39 @@
 // verdicts TABLE: for each server row its number and its response in N, D1 and D2, `misses` where there is none; a refused table as its
 // one line.
 
-use libc::STDOUT_FILENO;
+use decimal::put::put_all;
+use decimal::put::put_number;
 use table::Mode;
 use table::Table;
 use verdict::Verdict;
 
-fn say_verdict(v: Verdict) -> bool {
+fn put_verdict(v: Verdict, room: &mut [u8], at: usize) -> usize {
     match v {
-        Verdict::Response(r) => io::print_decimal(STDOUT_FILENO, r.0 as u64),
-        Verdict::Misses => io::write_all(STDOUT_FILENO, b"misses"),
-        Verdict::No(_) => io::write_all(STDOUT_FILENO, b"no"),
+        Verdict::Response(r) => put_number(r.0 as u64, room, at),
+        Verdict::Misses => put_all(b"misses", room, at),
+        Verdict::No(_) => put_all(b"no", room, at),
     }
 }
 
 // A tab and the verdict for a row in a mode.
-fn say_mode(t: Table, row: usize, m: Mode) {
-    io::write_all(STDOUT_FILENO, b"\t");
-    say_verdict(verdict::verdict_of(t, row, m));
+fn put_mode(t: Table, row: usize, m: Mode, room: &mut [u8], at: usize) -> usize {
+    let a = put_all(b"\t", room, at);
+    let v = verdict::verdict_of(t, row, m);
+    put_verdict(v, room, a)
+}
+
+fn put_row(t: Table, row: usize, room: &mut [u8], at: usize) -> usize {
+    let a = put_number(row as u64, room, at);
+    let b = put_mode(t, row, Mode::N, room, a);
+    let c = put_mode(t, row, Mode::D1, room, b);
+    let d = put_mode(t, row, Mode::D2, room, c);
+    put_all(b"\n", room, d)
 }
 
 fn say_row(t: Table, row: usize) {
-    io::print_decimal(STDOUT_FILENO, row as u64);
-    say_mode(t, row, Mode::N);
-    say_mode(t, row, Mode::D1);
-    say_mode(t, row, Mode::D2);
-    files::write_out(b"\n");
-}
-
-fn say_rows(t: Table) {
-    for row in 0..t.nservers {
-        say_row(t, row);
-    }
+    let mut line = [0u8; 64];
+    let n = put_row(t, row, &mut line, 0);
+    files::write_first(&line, n);
 }
 
 fn main() {
@@ -43,8 +45,10 @@ fn main() {
         return;
     }
     let given = files::given::take_table(fd);
+    let t = given.table;
     if given.there {
-        let t = given.table;
-        say_rows(t);
+        for row in 0..t.nservers {
+            say_row(t, row);
+        }
     }
 }
