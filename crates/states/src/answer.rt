@@ -1,14 +1,16 @@
 // What the library answers to a block, as the format prints it.
 
-use crate::block::mode_in;
-use crate::block::run_in;
-use crate::block::table_in;
-use crate::form;
-use libc::STDOUT_FILENO;
+use crate::block::Block;
+use crate::block::Operation;
+use crate::part;
+use decimal::put::put_all;
+use decimal::put::put_byte;
+use decimal::put::put_number;
 use run::Answer;
 use run::Answered;
 use run::Last;
 use run::Left;
+use run::Run;
 use run::State;
 use run::TickAnswer;
 use run::Turn;
@@ -16,29 +18,80 @@ use table::Mode;
 use table::Refusal;
 use table::SERVERS;
 use table::TASKS;
+use table::Table;
 use text::Writing;
 use verdict::Verdict;
 ghost use Prim.Native.Nat.{_≤_};
 
-// The word that says no, after those of form.rt.
-const NO: usize = 11;
+// No answer is longer: 98 lines, or the text of a table.
+const LONGEST: usize = 16384;
+// What a room holds before it is lent.
+const BEFORE: u8 = b'~';
 
-// A line: its word, and so many of the numbers. Whether its end was written.
-fn say(kind: usize, many: usize, numbers: [u64; 8]) -> bool
-    requires { ⌜ many ≤ 8 ⌝ }
-{
-    let words =
-        b"table\tserver\ttask\tstate\tbudget\tqueue\tfresh\trelease\ttick\tverdict\twrite\tno";
-    io::write_all(STDOUT_FILENO, decimal::field(words, kind));
-    for i in 0..many {
-        io::write_all(STDOUT_FILENO, b"\t");
-        io::print_decimal(STDOUT_FILENO, numbers[i]);
+// A word and then numbers, as a line.
+fn put_line(word: &[u8], numbers: &[u64], room: &mut [u8], at: usize) -> usize {
+    let mut k = put_all(word, room, at);
+    for i in 0..numbers.len() {
+        k = put_byte(decimal::TAB, room, k);
+        k = put_number(numbers[i], room, k);
     }
-    files::write_out(b"\n")
+    put_byte(decimal::LINE_FEED, room, k)
+}
+
+fn say_line(word: &[u8], numbers: &[u64]) -> bool {
+    let mut room = [0u8; LONGEST];
+    let n = put_line(word, numbers, &mut room, 0);
+    files::write_first(&room, n)
 }
 
 fn say_no(why: Refusal) -> bool {
-    say(NO, 1, [table::number_of(why), 0, 0, 0, 0, 0, 0, 0])
+    say_line(b"no", &[table::number_of(why)])
+}
+
+fn say_verdict(t: Table, row: usize, m: Mode) -> bool {
+    match verdict::verdict_of(t, row, m) {
+        Verdict::Response(r) => say_line(b"verdict", &[1, r.0 as u64]),
+        Verdict::Misses => say_line(b"verdict", &[0, 0]),
+        Verdict::No(why) => say_no(why),
+    }
+}
+
+// Whether the room still holds what it did from a place on.
+fn is_kept(room: &[u8], from: usize) -> bool {
+    for i in from..room.len() {
+        if room[i] != BEFORE {
+            return false;
+        }
+    }
+    true
+}
+
+// The writer, lent as many bytes of the room as are asked for. The longest text is far shorter than the room.
+fn write_in(t: Table, size: usize, room: &mut [u8]) -> Writing {
+    let lent = part::first(size, room);
+    writer::write_table(t, &mut room[..lent])
+}
+
+// "A writer changes nothing beyond the text", and a refused one nothing at all: what no answer of the format could say is said too.
+fn say_written(t: Table, size: usize) -> bool {
+    let mut room = [BEFORE; LONGEST];
+    match write_in(t, size, &mut room) {
+        Writing::Written(many) => {
+            if !is_kept(&room, many) {
+                return say_line(b"changed beyond the text", &[]);
+            }
+            if !say_line(b"write", &[many as u64]) {
+                return false;
+            }
+            files::write_first(&room, many)
+        }
+        Writing::Refused(why) => {
+            if !is_kept(&room, 0) {
+                return say_line(b"changed though refused", &[]);
+            }
+            say_no(why)
+        }
+    }
 }
 
 fn mode_number(m: Mode) -> u64 {
@@ -49,165 +102,144 @@ fn mode_number(m: Mode) -> u64 {
     }
 }
 
-fn say_tick(a: TickAnswer, what: u64, server: u64, task: u64) -> bool {
-    let m = a.mode;
+// How many of a state's rows are shown: those in use.
+fn shown(n: usize, most: usize) -> usize
+    ensures { λ r. ⌜ r ≤ most ⌝ }
+{
+    if n <= most { n } else { most }
+}
+
+fn put_head(s: State, room: &mut [u8], at: usize) -> usize {
+    let m = s.mode;
     let mode = mode_number(m);
-    let tick = a.tick as u64;
-    let discarded = a.discarded as u64;
-    let left = a.left;
-    match left {
-        Left::Nobody => say(
-            form::TICK,
-            8,
-            [tick, mode, what, server, task, 0, 0, discarded],
-        ),
-        Left::Done(k) => say(
-            form::TICK,
-            8,
-            [tick, mode, what, server, task, 1, k as u64, discarded],
-        ),
-        Left::Cut(k) => say(
-            form::TICK,
-            8,
-            [tick, mode, what, server, task, 2, k as u64, discarded],
-        ),
-    }
-}
-
-fn say_turn(a: TickAnswer) -> bool {
-    let turn = a.turn;
-    match turn {
-        Turn::Run { server, task } => say_tick(a, 2, server as u64, task as u64),
-        Turn::Empty { server } => say_tick(a, 1, server as u64, 0),
-        Turn::Idle => say_tick(a, 0, 0, 0),
-    }
-}
-
-// The first line of an answer; whether a state follows.
-fn say_first(a: Answer) -> bool {
-    match a {
-        Answer::Started => say(form::FRESH, 0, [0; 8]),
-        Answer::Released(_) => say(form::RELEASE, 0, [0; 8]),
-        Answer::Ticked(t) => say_turn(t),
-        Answer::No(why) => {
-            say_no(why);
-            false
-        }
-    }
-}
-
-fn say_head(mode: u64, ticks: u32, accepted: u32, last: Last) -> bool {
-    match last {
-        Last::NoJob => say(
-            form::STATE,
-            5,
-            [mode, ticks as u64, accepted as u64, 0, 0, 0, 0, 0],
-        ),
-        Last::Job(k) => say(
-            form::STATE,
-            5,
-            [mode, ticks as u64, accepted as u64, 1, k as u64, 0, 0, 0],
-        ),
-    }
-}
-
-fn say_budgets(used: [u32; SERVERS], elapsed: [u32; SERVERS], n: usize) {
-    for i in 0..SERVERS {
-        if n <= i {
-            return;
-        }
-        say(
-            form::BUDGET,
-            2,
-            [used[i] as u64, elapsed[i] as u64, 0, 0, 0, 0, 0, 0],
-        );
-    }
-}
-
-fn say_queues(waiting: [u8; TASKS], runs: [u32; TASKS], n: usize) {
-    for i in 0..TASKS {
-        if n <= i {
-            return;
-        }
-        say(
-            form::QUEUE,
-            2,
-            [waiting[i] as u64, runs[i] as u64, 0, 0, 0, 0, 0, 0],
-        );
-    }
-}
-
-fn say_state(s: State, servers: usize, tasks: usize) {
-    let mode = s.mode;
     let last = s.last;
-    let used = s.used;
-    let elapsed = s.elapsed;
-    let waiting = s.waiting;
-    let runs = s.runs;
-    say_head(mode_number(mode), s.ticks, s.accepted, last);
-    say_budgets(used, elapsed, servers);
-    say_queues(waiting, runs, tasks);
+    let ticks = s.ticks as u64;
+    let accepted = s.accepted as u64;
+    match last {
+        Last::NoJob => put_line(b"state", &[mode, ticks, accepted, 0, 0], room, at),
+        Last::Job(k) => put_line(b"state", &[mode, ticks, accepted, 1, k as u64], room, at),
+    }
 }
 
-fn say_answered(a: Answered) {
-    let answer = a.answer;
-    if !say_first(answer) {
-        return;
+fn put_budget(used: u32, elapsed: u32, room: &mut [u8], at: usize) -> usize {
+    put_line(b"budget", &[used as u64, elapsed as u64], room, at)
+}
+
+fn put_queue(waiting: u8, runs: u32, room: &mut [u8], at: usize) -> usize {
+    put_line(b"queue", &[waiting as u64, runs as u64], room, at)
+}
+
+fn put_budgets(s: State, n: usize, room: &mut [u8], at: usize) -> usize {
+    let mut k = at;
+    for i in 0..shown(n, SERVERS) {
+        k = put_budget(s.used[i], s.elapsed[i], room, k);
     }
-    let r = a.run;
+    k
+}
+
+fn put_queues(s: State, n: usize, room: &mut [u8], at: usize) -> usize {
+    let mut k = at;
+    for i in 0..shown(n, TASKS) {
+        k = put_queue(s.waiting[i], s.runs[i], room, k);
+    }
+    k
+}
+
+// After the line of what was taken, the next state.
+fn say_state(word: &[u8], numbers: &[u64], r: Run) -> bool {
     let t = r.table;
     let s = r.state;
-    say_state(s, t.nservers, t.ntasks);
+    let mut room = [0u8; LONGEST];
+    let k = put_line(word, numbers, &mut room, 0);
+    let k = put_head(s, &mut room, k);
+    let k = put_budgets(s, t.nservers, &mut room, k);
+    let k = put_queues(s, t.ntasks, &mut room, k);
+    files::write_first(&room, k)
 }
 
-fn answered(block: &[u8], kind: usize, n: usize) -> Answered {
-    match kind {
-        form::FRESH => scheduler::start(table_in(block)),
-        form::RELEASE => scheduler::release(run_in(block), n),
-        _ => scheduler::tick(run_in(block), n == 1),
+fn what_of(turn: Turn) -> u64 {
+    match turn {
+        Turn::Run { server: _, task: _ } => 2,
+        Turn::Empty { server: _ } => 1,
+        Turn::Idle => 0,
     }
 }
 
-fn say_verdict(v: Verdict) -> bool {
-    match v {
-        Verdict::Response(r) => say(form::VERDICT, 2, [1, r.0 as u64, 0, 0, 0, 0, 0, 0]),
-        Verdict::Misses => say(form::VERDICT, 2, [0; 8]),
-        Verdict::No(why) => say_no(why),
+fn server_of(turn: Turn) -> u64 {
+    match turn {
+        Turn::Run { server, task: _ } => server as u64,
+        Turn::Empty { server } => server as u64,
+        Turn::Idle => 0,
     }
 }
 
-fn say_writing(w: Writing, room: &[u8]) -> bool {
-    match w {
-        Writing::Written(n) => {
-            say(form::WRITE, 1, [n as u64, 0, 0, 0, 0, 0, 0, 0]);
-            files::write_first(room, n)
-        }
-        Writing::Refused(why) => say_no(why),
+fn task_of(turn: Turn) -> u64 {
+    match turn {
+        Turn::Run { server: _, task } => task as u64,
+        Turn::Empty { server: _ } => 0,
+        Turn::Idle => 0,
     }
 }
 
-// The text of a table is far shorter than this, so a greater room is as good.
-fn lent(size: usize) -> usize
-    ensures { λ r. ⌜ r ≤ 65536 ⌝ }
-{
-    if size < 65536 { size } else { 65536 }
+fn how_of(left: Left) -> u64 {
+    match left {
+        Left::Nobody => 0,
+        Left::Done(_) => 1,
+        Left::Cut(_) => 2,
+    }
 }
 
-fn say_written(block: &[u8], size: usize) {
-    let mut room = io::large_buffer();
-    let n = lent(size);
-    let w = writer::write_table(table_in(block), &mut room[..n]);
-    say_writing(w, &room);
+fn left_task(left: Left) -> u64 {
+    match left {
+        Left::Nobody => 0,
+        Left::Done(k) => k as u64,
+        Left::Cut(k) => k as u64,
+    }
 }
 
-// The operation that a line names, on what the block before it gives.
-pub fn say_answer(block: &[u8], kind: usize, line: &[u8]) {
-    let n = form::value(line, 1) as usize;
-    match kind {
-        form::VERDICT => {
-            say_verdict(verdict::verdict_of(table_in(block), n, mode_in(line, 2)));
-        }
-        form::WRITE => say_written(block, n),
-        _ => say_answered(answered(block, kind, n)),
+fn say_tick(a: TickAnswer, r: Run) -> bool {
+    let m = a.mode;
+    let mode = mode_number(m);
+    let turn = a.turn;
+    let left = a.left;
+    say_state(
+        b"tick",
+        &[
+            a.tick as u64,
+            mode,
+            what_of(turn),
+            server_of(turn),
+            task_of(turn),
+            how_of(left),
+            left_task(left),
+            a.discarded as u64,
+        ],
+        r,
+    )
+}
+
+fn say_answered(a: Answered) -> bool {
+    let answer = a.answer;
+    let r = a.run;
+    match answer {
+        Answer::Started => say_state(b"fresh", &[], r),
+        Answer::Released(_) => say_state(b"release", &[], r),
+        Answer::Ticked(t) => say_tick(t, r),
+        Answer::No(why) => say_no(why),
+    }
+}
+
+// Whether the answer was written.
+pub fn say_answer(b: Block, asked: Operation) -> bool {
+    let t = b.table;
+    let s = b.state;
+    let r = Run { table: t, state: s };
+    match asked {
+        Operation::Fresh => say_answered(scheduler::start(t)),
+        Operation::Release(task) => say_answered(scheduler::release(r, task)),
+        Operation::Tick(mark) => say_answered(scheduler::tick(r, mark)),
+        Operation::Verdict(row, m) => say_verdict(t, row, m),
+        Operation::Write(size) => say_written(t, size),
+        Operation::Nothing => true,
     }
 }

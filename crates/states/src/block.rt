@@ -1,15 +1,7 @@
-// The table and the state that a block gives, row by row. "A row in use that is not given is all 0": an empty line has no numbers.
+// A block: a table and a state, filled line by line, and the operation that ends it.
 
-use crate::form::BUDGET;
-use crate::form::QUEUE;
-use crate::form::SERVER;
-use crate::form::STATE;
-use crate::form::TABLE;
-use crate::form::TASK;
-use crate::form::nth;
-use crate::form::value;
+use decimal::Number;
 use run::Last;
-use run::Run;
 use run::State;
 use table::ByMode;
 use table::Kind;
@@ -23,142 +15,337 @@ use table::Task;
 use units::Micros;
 use units::Ticks;
 
-// Numbers of a line that is in the format are as small as is asked here.
-fn number(line: &[u8], k: usize) -> u32 {
-    (value(line, k) % 4294967296) as u32
+// The greatest number that a field of the format may hold: 32 bits, or 8 where the table and the state hold no more.
+const WIDE: u64 = 4294967295;
+
+const BYTE: u64 = 255;
+// The greatest task, row or room that an operation may name here: 11 digits.
+const LARGE: u64 = 99999999999;
+// Stands where there is no number, past every bound.
+const NO_NUMBER: u64 = 18446744073709551615;
+
+// The rows given so far are the first servers, tasks, budgets and queues.
+pub struct Block {
+    pub open: bool,
+    pub broken: bool,
+    pub table: Table,
+    pub state: State,
+    pub servers: usize,
+    pub tasks: usize,
+    pub budgets: usize,
+    pub queues: usize,
 }
 
-fn byte(line: &[u8], k: usize) -> u8 {
-    (value(line, k) % 256) as u8
+pub enum Operation {
+    Fresh,
+    Release(usize),
+    Tick(bool),
+    Verdict(usize, Mode),
+    Write(usize),
+    Nothing,
 }
 
-pub fn mode_in(line: &[u8], k: usize) -> Mode {
-    match value(line, k) {
+fn value(line: &[u8], k: usize) -> u64 {
+    match decimal::number_in(line, k) {
+        Number::Value(v) => v,
+        Number::Bad => NO_NUMBER,
+    }
+}
+
+// Whether a line is this word and then numbers, one for each bound and within it.
+fn is_line(line: &[u8], word: &[u8], most: &[u64]) -> bool {
+    if !decimal::word_in(line, 0, word) {
+        return false;
+    }
+    if decimal::fields(line) != most.len() + 1 {
+        return false;
+    }
+    for k in 0..most.len() {
+        if most[k] < value(line, k + 1) {
+            return false;
+        }
+    }
+    true
+}
+
+fn narrow(v: u64) -> u32 {
+    if v <= WIDE { v as u32 } else { 0 }
+}
+
+fn byte(v: u64) -> u8 {
+    if v <= BYTE { v as u8 } else { 0 }
+}
+
+fn mode_of(v: u64) -> Mode {
+    match v {
         0 => Mode::N,
         1 => Mode::D1,
         _ => Mode::D2,
     }
 }
 
-fn kind_in(line: &[u8], k: usize) -> Kind {
-    match value(line, k) {
+fn kind_of(v: u64) -> Kind {
+    match v {
         0 => Kind::Event,
         _ => Kind::Timed,
     }
 }
 
-fn level_in(line: &[u8], k: usize) -> Level {
-    match value(line, k) {
+fn level_of(v: u64) -> Level {
+    match v {
         0 => Level::LO,
         1 => Level::MI,
         _ => Level::HI,
     }
 }
 
-fn last_in(line: &[u8]) -> Last {
-    match value(line, 4) {
+fn last_of(any: u64, row: u64) -> Last {
+    match any {
         0 => Last::NoJob,
-        _ => Last::Job(value(line, 5) as usize),
+        _ => Last::Job(row as usize),
     }
 }
 
 // The last three numbers of a server line and of a task line.
 fn by_mode(line: &[u8]) -> ByMode {
     ByMode {
-        n: Ticks(number(line, 5)),
-        d1: Ticks(number(line, 6)),
-        d2: Ticks(number(line, 7)),
+        n: Ticks(narrow(value(line, 5))),
+        d1: Ticks(narrow(value(line, 6))),
+        d2: Ticks(narrow(value(line, 7))),
     }
 }
 
 fn server_in(line: &[u8]) -> Server {
     Server {
-        partition: byte(line, 1),
-        kind: kind_in(line, 2),
-        priority: byte(line, 3),
-        period: Ticks(number(line, 4)),
+        partition: byte(value(line, 1)),
+        kind: kind_of(value(line, 2)),
+        priority: byte(value(line, 3)),
+        period: Ticks(narrow(value(line, 4))),
         capacity: by_mode(line),
     }
 }
 
 fn task_in(line: &[u8]) -> Task {
     Task {
-        home: byte(line, 1),
-        degraded: byte(line, 2),
-        priority: byte(line, 3),
-        level: level_in(line, 4),
+        home: byte(value(line, 1)),
+        degraded: byte(value(line, 2)),
+        priority: byte(value(line, 3)),
+        level: level_of(value(line, 4)),
         limit: by_mode(line),
     }
 }
 
-fn servers_in(block: &[u8]) -> [Server; SERVERS] {
-    let mut servers = [server_in(nth(block, SERVER, 0)); SERVERS];
-    for i in 0..SERVERS {
-        servers[i] = server_in(nth(block, SERVER, i));
+fn no_times() -> ByMode {
+    ByMode {
+        n: Ticks(0),
+        d1: Ticks(0),
+        d2: Ticks(0),
     }
-    servers
 }
 
-fn tasks_in(block: &[u8]) -> [Task; TASKS] {
-    let mut tasks = [task_in(nth(block, TASK, 0)); TASKS];
-    for i in 0..TASKS {
-        tasks[i] = task_in(nth(block, TASK, i));
-    }
-    tasks
-}
-
-pub fn table_in(block: &[u8]) -> Table {
-    let line = nth(block, TABLE, 0);
+// "A row in use that is not given is all 0."
+fn table_of(tick: u64, nservers: usize, ntasks: usize) -> Table {
+    let server = Server {
+        partition: 0,
+        kind: Kind::Event,
+        priority: 0,
+        period: Ticks(0),
+        capacity: no_times(),
+    };
+    let task = Task {
+        home: 0,
+        degraded: 0,
+        priority: 0,
+        level: Level::LO,
+        limit: no_times(),
+    };
     Table {
-        tick: Micros(value(line, 1)),
-        nservers: value(line, 2) as usize,
-        ntasks: value(line, 3) as usize,
-        servers: servers_in(block),
-        tasks: tasks_in(block),
+        tick: Micros(tick),
+        nservers,
+        ntasks,
+        servers: [server; SERVERS],
+        tasks: [task; TASKS],
     }
 }
 
-fn budgets_in(block: &[u8], k: usize) -> [u32; SERVERS] {
-    let mut counts = [0u32; SERVERS];
-    for i in 0..SERVERS {
-        counts[i] = number(nth(block, BUDGET, i), k);
-    }
-    counts
-}
-
-fn waiting_in(block: &[u8]) -> [u8; TASKS] {
-    let mut waiting = [0u8; TASKS];
-    for i in 0..TASKS {
-        waiting[i] = byte(nth(block, QUEUE, i), 1);
-    }
-    waiting
-}
-
-fn runs_in(block: &[u8]) -> [u32; TASKS] {
-    let mut runs = [0u32; TASKS];
-    for i in 0..TASKS {
-        runs[i] = number(nth(block, QUEUE, i), 2);
-    }
-    runs
-}
-
-fn state_in(block: &[u8]) -> State {
-    let line = nth(block, STATE, 0);
+// "Without a `state` line all its numbers are 0."
+fn no_state() -> State {
     State {
-        mode: mode_in(line, 1),
-        used: budgets_in(block, 1),
-        elapsed: budgets_in(block, 2),
-        waiting: waiting_in(block),
-        runs: runs_in(block),
-        last: last_in(line),
-        ticks: number(line, 2),
-        accepted: number(line, 3),
+        mode: Mode::N,
+        used: [0; SERVERS],
+        elapsed: [0; SERVERS],
+        waiting: [0; TASKS],
+        runs: [0; TASKS],
+        last: Last::NoJob,
+        ticks: 0,
+        accepted: 0,
     }
 }
 
-pub fn run_in(block: &[u8]) -> Run {
-    Run {
-        table: table_in(block),
-        state: state_in(block),
+fn block_of(open: bool, table: Table) -> Block {
+    Block {
+        open,
+        broken: false,
+        table,
+        state: no_state(),
+        servers: 0,
+        tasks: 0,
+        budgets: 0,
+        queues: 0,
     }
+}
+
+pub fn empty() -> Block {
+    block_of(false, table_of(0, 0, 0))
+}
+
+pub fn broken(b: Block) -> Block {
+    Block { broken: true, ..b }
+}
+
+// "Empty lines and lines that begin with `#` are passed over."
+pub fn is_passed_over(line: &[u8]) -> bool {
+    if line.len() == 0 {
+        return true;
+    }
+    line[0] == b'#'
+}
+
+pub fn is_asked(asked: Operation) -> bool {
+    if let Operation::Nothing = asked {
+        false
+    } else {
+        true
+    }
+}
+
+// The operation that a line names, if it does.
+pub fn operation_in(line: &[u8]) -> Operation {
+    let first = value(line, 1);
+    if is_line(line, b"fresh", &[]) {
+        return Operation::Fresh;
+    }
+    if is_line(line, b"release", &[LARGE]) {
+        return Operation::Release(first as usize);
+    }
+    if is_line(line, b"tick", &[1]) {
+        return Operation::Tick(first == 1);
+    }
+    if is_line(line, b"verdict", &[LARGE, 2]) {
+        return Operation::Verdict(first as usize, mode_of(value(line, 2)));
+    }
+    if is_line(line, b"write", &[LARGE]) {
+        return Operation::Write(first as usize);
+    }
+    Operation::Nothing
+}
+
+fn open_table(b: Block, line: &[u8]) -> Block {
+    if b.open {
+        return broken(b);
+    }
+    block_of(
+        true,
+        table_of(
+            value(line, 1),
+            value(line, 2) as usize,
+            value(line, 3) as usize,
+        ),
+    )
+}
+
+fn add_server(b: Block, line: &[u8]) -> Block {
+    let n = b.servers;
+    let mut t = b.table;
+    if SERVERS <= n {
+        return broken(b);
+    }
+    t.servers[n] = server_in(line);
+    Block {
+        table: t,
+        servers: n + 1,
+        ..b
+    }
+}
+
+fn add_task(b: Block, line: &[u8]) -> Block {
+    let n = b.tasks;
+    let mut t = b.table;
+    if TASKS <= n {
+        return broken(b);
+    }
+    t.tasks[n] = task_in(line);
+    Block {
+        table: t,
+        tasks: n + 1,
+        ..b
+    }
+}
+
+fn add_state(b: Block, line: &[u8]) -> Block {
+    let s = b.state;
+    let state = State {
+        mode: mode_of(value(line, 1)),
+        last: last_of(value(line, 4), value(line, 5)),
+        ticks: narrow(value(line, 2)),
+        accepted: narrow(value(line, 3)),
+        ..s
+    };
+    Block { state, ..b }
+}
+
+fn add_budget(b: Block, line: &[u8]) -> Block {
+    let n = b.budgets;
+    let mut s = b.state;
+    if SERVERS <= n {
+        return broken(b);
+    }
+    s.used[n] = narrow(value(line, 1));
+    s.elapsed[n] = narrow(value(line, 2));
+    Block {
+        state: s,
+        budgets: n + 1,
+        ..b
+    }
+}
+
+fn add_queue(b: Block, line: &[u8]) -> Block {
+    let n = b.queues;
+    let mut s = b.state;
+    if TASKS <= n {
+        return broken(b);
+    }
+    s.waiting[n] = byte(value(line, 1));
+    s.runs[n] = narrow(value(line, 2));
+    Block {
+        state: s,
+        queues: n + 1,
+        ..b
+    }
+}
+
+// A line that is no operation. "A block begins with its `table` line."
+pub fn take_row(b: Block, line: &[u8]) -> Block {
+    if is_line(line, b"table", &[WIDE, WIDE, WIDE]) {
+        return open_table(b, line);
+    }
+    if !b.open {
+        return broken(b);
+    }
+    if is_line(line, b"server", &[BYTE, 1, BYTE, WIDE, WIDE, WIDE, WIDE]) {
+        return add_server(b, line);
+    }
+    if is_line(line, b"task", &[BYTE, BYTE, BYTE, 2, WIDE, WIDE, WIDE]) {
+        return add_task(b, line);
+    }
+    if is_line(line, b"state", &[2, WIDE, WIDE, 1, WIDE]) {
+        return add_state(b, line);
+    }
+    if is_line(line, b"budget", &[WIDE, WIDE]) {
+        return add_budget(b, line);
+    }
+    if is_line(line, b"queue", &[BYTE, WIDE]) {
+        return add_queue(b, line);
+    }
+    broken(b)
 }

@@ -3,86 +3,108 @@
 
 mod answer;
 mod block;
-mod form;
+mod part;
 
+use crate::block::Block;
 use libc::STDERR_FILENO;
-ghost use mathlib.Core.Path.{_≡_};
-ghost use Prim.Native.Nat.{_≤_};
-ghost use lib.ListN.{length};
 
-fn refuse(what: &[u8]) -> bool {
-    io::write_all(STDERR_FILENO, b"not in the format: ");
+// A line of the format has at most some 120 bytes.
+const LONGEST: usize = 256;
+
+// What was taken of the file so far: the block that is open, and how many bytes of the line that is not closed yet are held.
+struct Feed {
+    block: Block,
+    len: usize,
+    ended: bool,
+}
+
+fn say(what: &[u8], line: &[u8]) {
     io::write_all(STDERR_FILENO, what);
+    io::write_all(STDERR_FILENO, line);
     io::write_all(STDERR_FILENO, b"\n");
-    false
 }
 
-// Whether the line is in the format. An operation is answered.
-fn take_line(block: &[u8], kind: usize, line: &[u8]) -> bool {
-    if kind < form::FRESH {
-        return true;
+// A line, without its line feed.
+fn take_line(b: Block, line: &[u8]) -> Block {
+    if block::is_passed_over(line) {
+        return b;
     }
-    if kind == form::PASSED_OVER {
-        return true;
+    let asked = block::operation_in(line);
+    if !block::is_asked(asked) {
+        let taken = block::take_row(b, line);
+        if taken.broken {
+            say(b"not in the format: ", line);
+        }
+        return taken;
     }
-    if kind == form::ANOTHER {
-        return refuse(line);
+    if !b.open {
+        say(b"no table before: ", line);
+        return block::broken(b);
     }
-    if !form::is_block(block) {
-        return refuse(line);
+    if !answer::say_answer(b, asked) {
+        return block::broken(b);
     }
-    answer::say_answer(block, kind, line);
-    true
+    block::empty()
 }
 
-// Where the block begins that the next line belongs to: after an operation, and what is passed over before a block is no part of it.
-fn begin(kind: usize, from: usize, at: usize, next: usize) -> usize
-    requires { ⌜ from ≤ next ⌝ }
-    ensures { λ r. ⌜ r ≤ next ⌝ }
-{
-    if kind < form::FRESH {
-        return from;
+// The held line, closed. One that fills all that is held is too long.
+fn close_line(b: Block, held: &[u8], len: usize) -> Block {
+    if held.len() <= len {
+        say(b"too long: ", held);
+        return block::broken(b);
     }
-    if kind < form::PASSED_OVER {
-        return next;
-    }
-    if from == at { next } else { from }
+    let n = part::first(len, held);
+    take_line(b, &held[..n])
 }
 
-fn take_lines(text: &[u8]) {
-    let mut from = 0;
+// The lines of a piece of the file. Where it ends within a line, the start of that line is held.
+fn take_lines(f: Feed, held: &mut [u8], piece: &[u8]) -> Feed {
+    let mut b = f.block;
+    let mut len = f.len;
     let mut at = 0;
-    while at < text.len() {
-        let e = bytes::scan::find(text, at, text.len(), decimal::LINE_FEED);
-        if e == text.len() {
-            refuse(b"the last line is not closed");
-            return;
+    while at < piece.len() {
+        let e = bytes::scan::find(piece, at, piece.len(), decimal::LINE_FEED);
+        len = decimal::put::put_all(&piece[at..e], held, len);
+        if e == piece.len() {
+            break;
         }
-        let line = &text[at..e];
-        let kind = form::kind_in(line);
-        if !take_line(&text[from..at], kind, line) {
-            return;
+        b = close_line(b, held, len);
+        if b.broken {
+            break;
         }
-        from = begin(kind, from, at, e + 1);
+        len = 0;
         at = e + 1;
     }
-    if from < at {
-        refuse(b"the last block has no operation");
+    Feed {
+        block: b,
+        len,
+        ended: b.broken,
     }
 }
 
-// A file is read whole, and this far.
-fn buffer() -> [u8; 1048576]
-    ensures { λ r. ⌜ 1048576 ≡ length r ⌝ }
-{
-    [0; 1048576]
+fn take_some(fd: i32, f: Feed, held: &mut [u8]) -> Feed {
+    let mut buf = io::large_buffer();
+    let got = files::take_piece(fd, &mut buf);
+    let n = got.len;
+    if n == 0 {
+        return Feed { ended: true, ..f };
+    }
+    take_lines(f, held, &buf[..n])
 }
 
-fn take_file(fd: i32) {
-    let mut buf = buffer();
-    let got = files::take_whole(fd, &mut buf);
-    let n = got.len;
-    take_lines(&buf[..n]);
+// A proved loop has to end, and nothing says that a file does: turns are counted down from a number that no run uses up.
+fn take_all(fd: i32, held: &mut [u8]) -> Feed {
+    let mut f = Feed {
+        block: block::empty(),
+        len: 0,
+        ended: false,
+    };
+    let mut turns = u64::MAX;
+    while turns > 0 && !f.ended {
+        f = take_some(fd, f, held);
+        turns -= 1;
+    }
+    f
 }
 
 fn main() {
@@ -90,7 +112,19 @@ fn main() {
         return;
     }
     let fd = files::open_argument(1);
-    if 0 <= fd {
-        take_file(fd);
+    if fd < 0 {
+        return;
+    }
+    let mut held = [0u8; LONGEST];
+    let f = take_all(fd, &mut held);
+    let b = f.block;
+    if b.broken {
+        return;
+    }
+    if b.open {
+        say(b"the last block has no operation", b"");
+    }
+    if 0 < f.len {
+        say(b"the last line is not closed", b"");
     }
 }

@@ -1,4 +1,5 @@
--- `states::take_lines` is safe and ends: the line looked at begins within the text, after the block that it belongs to. Assumes nothing.
+-- `states::take_lines` is safe and ends: each turn leaves less of the piece. Assumes nothing.
+use mathlib.Core.Path.{_≡_}
 use Prim.Native.Nat.{_≤_, _-_}
 use native.Mathlib.Omega.{arith}
 use lib.ListN.{length}
@@ -7,79 +8,61 @@ use Rattle.states.proofs.take_lines.Statement.{statement}
 use Rattle.states.proofs.take_lines.Tie as tie
 
 abbrev Inv-loop : tie.InvT-loop
-Inv-loop text from₀ at₀ t7 t8 from at = (from ≤ at) × (at ≤ length text)
+Inv-loop held₀ piece b₀ len₀ at₀ held b len at = (at ≤ length piece) × (length held ≡ length held₀)
 
 abbrev μ-loop : tie.MeasureT-loop
-μ-loop text from₀ at₀ t7 t8 from at = length text - at
+μ-loop held₀ piece b₀ len₀ at₀ held b len at = length piece - at
 
 loop-holds : tie.Need-loop-holds Inv-loop μ-loop
-loop-holds c = omega arith
+loop-holds c = search needs
 
 find-requires : tie.Need-find-requires Inv-loop μ-loop
-find-requires c κs = omega arith
+find-requires c κs = search needs
 
-slice-aggregate-refuse : tie.Need-slice-aggregate-refuse Inv-loop μ-loop
-slice-aggregate-refuse c = search needs
+sub-put-all : tie.Need-sub-put-all Inv-loop μ-loop
+sub-put-all c = search needs
 
-refuse-requires : tie.Need-refuse-requires Inv-loop μ-loop
-refuse-requires c κs = tt
+part-put-all-start : tie.Need-part-put-all-start Inv-loop μ-loop
+part-put-all-start c = search needs
 
-returns : tie.Need-returns Inv-loop μ-loop
-returns c = tt
+part-put-all-end : tie.Need-part-put-all-end Inv-loop μ-loop
+part-put-all-end c = search needs
 
-sub-line : tie.Need-sub-line Inv-loop μ-loop
-sub-line c = omega arith
+put-all-requires : tie.Need-put-all-requires Inv-loop μ-loop
+put-all-requires c κs = search needs
 
-part-line-start : tie.Need-part-line-start Inv-loop μ-loop
-part-line-start c = omega arith
-
-part-line-end : tie.Need-part-line-end Inv-loop μ-loop
-part-line-end c = omega arith
-
-kind-in-requires : tie.Need-kind-in-requires Inv-loop μ-loop
-kind-in-requires c κs = tt
-
-sub-take-line : tie.Need-sub-take-line Inv-loop μ-loop
-sub-take-line c = omega arith
-
-part-take-line-start : tie.Need-part-take-line-start Inv-loop μ-loop
-part-take-line-start c = omega arith
-
-part-take-line-end : tie.Need-part-take-line-end Inv-loop μ-loop
-part-take-line-end c = omega arith
-
-take-line-requires : tie.Need-take-line-requires Inv-loop μ-loop
-take-line-requires c κs = tt
-
-returns-2 : tie.Need-returns-2 Inv-loop μ-loop
-returns-2 c = tt
-
-add-begin : tie.Need-add-begin Inv-loop μ-loop
-add-begin c = omega arith
-
-begin-requires : tie.Need-begin-requires Inv-loop μ-loop
-begin-requires c κs = omega arith
+close-line-requires : tie.Need-close-line-requires Inv-loop μ-loop
+close-line-requires c κs = search needs
 
 add-at : tie.Need-add-at Inv-loop μ-loop
-add-at c = omega arith
+add-at c =
+    let found = c .before .before .before .before .before .before .before .before .before in
+    let start = found .before .before .before .before .before .before in
+    omega (arith, found .find .ensures .1, c .before .before .before .if1 .left, start .good .1 .1 .0 .0)
 
 loop-less : tie.Need-loop-less Inv-loop μ-loop
-loop-less c = omega arith
+loop-less c = search needs
 
 loop-again : tie.Need-loop-again Inv-loop μ-loop
-loop-again c = omega arith
+loop-again c = search needs
 
-slice-aggregate-refuse-2 : tie.Need-slice-aggregate-refuse-2 Inv-loop μ-loop
-slice-aggregate-refuse-2 c = search needs
+same-length : tie.Need-same-length Inv-loop μ-loop
+same-length c = search needs
 
-refuse-requires-2 : tie.Need-refuse-requires-2 Inv-loop μ-loop
-refuse-requires-2 c κs = tt
+returns : tie.Need-returns Inv-loop μ-loop
+returns c = search needs
+
+same-length-2 : tie.Need-same-length-2 Inv-loop μ-loop
+same-length-2 c = search needs
+
+returns-2 : tie.Need-returns-2 Inv-loop μ-loop
+returns-2 c = search needs
+
+same-length-3 : tie.Need-same-length-3 Inv-loop μ-loop
+same-length-3 c = search needs
 
 returns-3 : tie.Need-returns-3 Inv-loop μ-loop
-returns-3 c = tt
-
-returns-4 : tie.Need-returns-4 Inv-loop μ-loop
-returns-4 c = tt
+returns-3 c = search needs
 
 pub take-lines-spec : {M : Type 1} → statement M
 take-lines-spec =
@@ -89,24 +72,17 @@ take-lines-spec =
     μ-loop
     loop-holds
     find-requires
-    slice-aggregate-refuse
-    refuse-requires
-    returns
-    sub-line
-    part-line-start
-    part-line-end
-    kind-in-requires
-    sub-take-line
-    part-take-line-start
-    part-take-line-end
-    take-line-requires
-    returns-2
-    add-begin
-    begin-requires
+    sub-put-all
+    part-put-all-start
+    part-put-all-end
+    put-all-requires
+    close-line-requires
     add-at
     loop-less
     loop-again
-    slice-aggregate-refuse-2
-    refuse-requires-2
-    returns-3
-    returns-4)
+    same-length
+    returns
+    same-length-2
+    returns-2
+    same-length-3
+    returns-3)
