@@ -249,8 +249,8 @@ pub no-13-beside : map (λ s. noIn s (Tick false))
 unfolding computed
 no-13-beside = refl
 
--- "state as it was": a job of task 1 waits, and then come a release and a tick that are refused
-pub as-it-was : stateAfter (Release 1 ∷ Release 3 ∷ Tick true ∷ []) ≡ stateAfter (Release 1 ∷ [])
+-- "state as it was": a job of task 1 waits, and then come a release and a tick that are refused. Who waits after that:
+pub as-it-was : map (waitingAt (stateAfter (Release 1 ∷ Release 3 ∷ Tick true ∷ []))) (0 ∷ 1 ∷ 2 ∷ []) ≡ 0 ∷ 1 ∷ 0 ∷ []
 unfolding computed
 as-it-was = refl
 
