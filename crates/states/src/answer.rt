@@ -230,7 +230,7 @@ fn say_answered(a: Answered) -> bool {
 }
 
 // Whether the answer was written.
-pub fn say_answer(b: Block, asked: Operation) -> bool {
+pub(crate) fn say_answer(b: Block, asked: Operation) -> bool {
     let t = b.table;
     let s = b.state;
     let r = Run { table: t, state: s };

@@ -195,23 +195,23 @@ fn block_of(open: bool, table: Table) -> Block {
     }
 }
 
-pub fn empty() -> Block {
+pub(crate) fn empty() -> Block {
     block_of(false, table_of(0, 0, 0))
 }
 
-pub fn broken(b: Block) -> Block {
+pub(crate) fn broken(b: Block) -> Block {
     Block { broken: true, ..b }
 }
 
 // "Empty lines and lines that begin with `#` are passed over."
-pub fn is_passed_over(line: &[u8]) -> bool {
+pub(crate) fn is_passed_over(line: &[u8]) -> bool {
     if line.len() == 0 {
         return true;
     }
     line[0] == b'#'
 }
 
-pub fn is_asked(asked: Operation) -> bool {
+pub(crate) fn is_asked(asked: Operation) -> bool {
     if let Operation::Nothing = asked {
         false
     } else {
@@ -220,7 +220,7 @@ pub fn is_asked(asked: Operation) -> bool {
 }
 
 // The operation that a line names, if it does.
-pub fn operation_in(line: &[u8]) -> Operation {
+pub(crate) fn operation_in(line: &[u8]) -> Operation {
     let first = value(line, 1);
     if is_line(line, b"fresh", &[]) {
         return Operation::Fresh;
@@ -325,7 +325,7 @@ fn add_queue(b: Block, line: &[u8]) -> Block {
 }
 
 // A line that is no operation. "A block begins with its `table` line."
-pub fn take_row(b: Block, line: &[u8]) -> Block {
+pub(crate) fn take_row(b: Block, line: &[u8]) -> Block {
     if is_line(line, b"table", &[WIDE, WIDE, WIDE]) {
         return open_table(b, line);
     }

@@ -3,7 +3,7 @@
 ghost use Rattle.io.specs.Counts.{Counts};
 
 // As many as are asked for, or all of them. Its contract is what `&room[..n]` asks.
-pub fn first(n: usize, room: &[u8]) -> usize
+pub(crate) fn first(n: usize, room: &[u8]) -> usize
     ensures { λ r. ⌜ Counts r (now (room .entry)) ⌝ }
 {
     if room.len() < n {
