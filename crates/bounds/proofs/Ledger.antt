@@ -1,7 +1,8 @@
--- The ledger of one server. In any stretch of ticks its charges are those before the first refill, those of the whole
--- periods, and those since the last refill; each part is within the capacity, and the refills are a period apart. From
--- it the bound on any window, the bound for a budget that may be kept (an event server's) and the one for a budget that
--- was spent at the start (a timed server's). Assumes nothing.
+-- The ledger of one server. In any stretch of ticks its charges are those before the first refill,
+-- those of the whole periods, and those since the last refill; each part is within the capacity,
+-- and the refills are a period apart. From it the bound on any window, the bound for a budget that
+-- may be kept (an event server's) and the one for a budget that was spent at the start (a timed
+-- server's). Assumes nothing.
 use mathlib.Core.Path.{_≡_}
 use mathlib.Core.Logic.{_⊎_, inl, inr}
 use Prim.Native.Nat.{ℕ, zero, suc, _+_, _*_, _-_, _≤_, _<_}
@@ -12,15 +13,16 @@ use Rattle.laws.proofs.Choice.{le-or-lt}
 use Rattle.laws.proofs.RoundUp.{lt-up}
 use Rattle.bounds.proofs.Windows.{window, window-none, window-next}
 
--- A server by time: what step 5 finds at a tick (used, elapsed, capacity), and 1 where the tick charges it, else 0.
+-- A server by time: what step 5 finds at a tick (used, elapsed, capacity), and 1 where the tick
+-- charges it, else 0.
 pub record Course : Type 0 where
   pub used : ℕ → ℕ
   pub elapsed : ℕ → ℕ
   pub capacity : ℕ → ℕ
   pub charge : ℕ → ℕ
 
--- From tick x to the next: the counts go on (elapsed by 1, or by 0 in a tick that does not charge), or the period is
--- over and both begin anew.
+-- From tick x to the next: the counts go on (elapsed by 1, or by 0 in a tick that does not charge),
+-- or the period is over and both begin anew.
 pub data Next (T : ℕ) (k : Course) (x : ℕ) : Type 0 where
   goes : k .elapsed x + k .charge x ≤ k .elapsed (suc x) → k .elapsed (suc x) ≤ suc (k .elapsed x) →
       k .used (suc x) ≡ k .used x + k .charge x → Next T k x
@@ -43,8 +45,8 @@ account-of T n m k a h =
       next = λ x l. a .next x (omega arith);
     }
 
--- The ticks s to z, which are w + 1, in which no capacity passes B: without a refill, or with p + 1 of them, the first
--- after a charges.
+-- The ticks s to z, which are w + 1, in which no capacity passes B: without a refill, or with p + 1
+-- of them, the first after a charges.
 pub data Ledger (T B : ℕ) (k : Course) (s w z : ℕ) : Type 0 where
   within : k .elapsed z ≤ k .elapsed s + w → window (k .charge) s (suc w) + k .used s ≡ k .used z + k .charge z →
       window (k .charge) s (suc w) + k .elapsed s ≤ k .elapsed z + k .charge z →
@@ -117,7 +119,8 @@ module _ (T B n : ℕ) (k : Course) (a : Account T n k) where
           let i = a .inside s (omega arith) in
           omega (arith, mul-le-mul-right B (lt-up w T p (omega arith) (omega arith)))
 
-  -- In any window, of a budget that may be kept to the end of one period and spent at once in the next.
+  -- In any window, of a budget that may be kept to the end of one period and spent at once in the
+  -- next.
   pub charges-kept : (s w : ℕ) → s + w ≤ n → B ≤ T → ((x : ℕ) → x < w → k .capacity (s + x) ≤ B) →
       window (k .charge) s w ≤ up (w + (T - B)) T * B
   charges-kept s zero h f b = omega (arith, window-none (k .charge) s)

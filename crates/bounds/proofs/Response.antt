@@ -1,7 +1,8 @@
--- Why a response is kept. A row is to get C ticks from tick s on, and gets each that no higher row takes. Look back
--- from s to where the higher rows began to take every tick: from there on they take at most what they ask of R ticks,
--- which is R - C, so that of any R ticks in a row C are left. In the prefix form, which is proved first: after x ticks
--- at most R - x of the C are missing. Nothing here says that a tick is taken by one row only. Assumes nothing.
+-- Why a response is kept. A row is to get C ticks from tick s on, and gets each that no higher row
+-- takes. Look back from s to where the higher rows began to take every tick: from there on they
+-- take at most what they ask of R ticks, which is R - C, so that of any R ticks in a row C are
+-- left. In the prefix form, which is proved first: after x ticks at most R - x of the C are
+-- missing. Nothing here says that a tick is taken by one row only. Assumes nothing.
 use mathlib.Core.Path.{_≡_, refl}
 use mathlib.Core.Bool.{Bool, true, false}
 use mathlib.Core.Logic.{inl, inr}
@@ -90,12 +91,14 @@ module _ (high : ℕ → ℕ) (own : ℕ → ℕ) (C R s x from gap : ℕ) (back
       at y e l =
           omega (arith, late y l, most (gap + y) (omega arith) (omega arith), window-start own s y x l)
 
--- What a row asks of r ticks: a row that keeps its budget may spend it late in one period and early in the next.
+-- What a row asks of r ticks: a row that keeps its budget may spend it late in one period and early
+-- in the next.
 abbrev pub asked : Bool → ℕ → ℕ → ℕ → ℕ
 asked true T C r = up r T * C
 asked false T C r = up (r + (T - C)) T * C
 
--- The first len ticks of n rows, in which no capacity of row j passes C j; at tick 0 every period begins.
+-- The first len ticks of n rows, in which no capacity of row j passes C j; at tick 0 every period
+-- begins.
 pub record Rows (n len : ℕ) (T : ℕ → ℕ) (C : ℕ → ℕ) (k : ℕ → Course) : Type 0 where
   pub account : (j : ℕ) → j < n → Account (T j) len (k j)
   pub most : (j : ℕ) → j < n → (x : ℕ) → x < len → k j .capacity x ≤ C j
@@ -132,7 +135,8 @@ module _ (n len : ℕ) (timed : ℕ → Bool) (T : ℕ → ℕ) (C : ℕ → ℕ
       go true e =
           omega (
             arith,
-            charges-clean (T j) (C j) len (k j) (rows .account j l) from (suc y) m (clean j l a e from (omega arith) b) cap,
+            charges-clean (T j) (C j) len (k j) (rows .account j l) from (suc y) m
+                (clean j l a e from (omega arith) b) cap,
             mul-le-mul-right (C j) (up-mono (suc y) R (T j) pos h),
           )
       go false e =
@@ -142,8 +146,8 @@ module _ (n len : ℕ) (timed : ℕ → Bool) (T : ℕ → ℕ) (C : ℕ → ℕ
             mul-le-mul-right (C j) (up-mono (suc y + (T j - C j)) (R + (T j - C j)) (T j) pos (omega arith)),
           )
 
-  -- The prefix form: after x ticks of its period row i lacks at most R - x of its C i charges. It is charged in each of
-  -- them that no row above takes, until it has them.
+  -- The prefix form: after x ticks of its period row i lacks at most R - x of its C i charges. It
+  -- is charged in each of them that no row above takes, until it has them.
   pub kept : (i R s x : ℕ) → i < n → C i + sumBelow n (λ j. if above j then asked (timed j) (T j) (C j) R else 0) ≤ R →
       k i .elapsed s ≡ 0 → x ≤ T i → s + x ≤ len →
       ((y : ℕ) → y < x → window (k i .charge) s y < C i → k i .used (s + y) ≡ window (k i .charge) s y →

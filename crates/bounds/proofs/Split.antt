@@ -1,5 +1,5 @@
--- Looking back from a tick: the longest stretch right before it in which every tick passes a test. It begins at tick 0,
--- or the tick before it does not pass. Assumes nothing.
+-- Looking back from a tick: the longest stretch right before it in which every tick passes a test.
+-- It begins at tick 0, or the tick before it does not pass. Assumes nothing.
 use mathlib.Core.Path.{_≡_}
 use mathlib.Core.Bool.{Bool, true, false}
 use mathlib.Core.Logic.{_⊎_, inl, inr}

@@ -1,5 +1,6 @@
--- Sums over windows of time, f s + f (s + 1) + .. + f (s + w - 1): time is a number, and f says how much of something
--- there is at it. Each law is an induction on the window's length. Assumes nothing.
+-- Sums over windows of time, f s + f (s + 1) + .. + f (s + w - 1): time is a number, and f says how
+-- much of something there is at it. Each law is an induction on the window's length. Assumes
+-- nothing.
 use mathlib.Core.Path.{_≡_, refl}
 use mathlib.Core.Logic.{inl, inr}
 use Prim.Native.Nat.{ℕ, zero, suc, _+_, _-_, _≤_, _<_}

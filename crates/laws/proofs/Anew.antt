@@ -15,7 +15,8 @@ length-anew (suc n) f [] = refl
 length-anew (suc n) f (x ∷ xs) = ap suc (length-anew n (λ i. f (suc i)) xs)
 
 -- a row below n is made anew, any other stays
-pub anew-at : (n : ℕ) (f : ℕ → ℕ → ℕ) (xs : List ℕ) (i d : ℕ) → i < n → i < length xs → getD (anew n f xs) i d ≡ f i (getD xs i d)
+pub anew-at : (n : ℕ) (f : ℕ → ℕ → ℕ) (xs : List ℕ) (i d : ℕ) → i < n → i < length xs →
+    getD (anew n f xs) i d ≡ f i (getD xs i d)
 unfolding anew
 anew-at zero f xs i d h l = absurd (omega arith)
 anew-at (suc n) f [] i d h l = absurd (omega arith)
@@ -53,11 +54,13 @@ module _ (f : ℕ → ℕ → ℕ) (xs ys : List ℕ) (i d : ℕ) (e : ys ≡ an
   pub anew-stay : f i (getD ys i d) ≡ getD ys i d → ys ≡ anew (i + 1) f xs
   anew-stay h = sym (set-getD ys i d) ∙ anew-put (getD ys i d) h
 
-pub anew-cong : (n : ℕ) (f g : ℕ → ℕ → ℕ) (xs : List ℕ) → ((i x : ℕ) → i < n → f i x ≡ g i x) → anew n f xs ≡ anew n g xs
+pub anew-cong : (n : ℕ) (f g : ℕ → ℕ → ℕ) (xs : List ℕ) → ((i x : ℕ) → i < n → f i x ≡ g i x) →
+    anew n f xs ≡ anew n g xs
 unfolding anew
 anew-cong zero f g xs h = refl
 anew-cong (suc n) f g [] h = refl
-anew-cong (suc n) f g (x ∷ xs) h = rw (h 0 x (omega arith), anew-cong n (λ i. f (suc i)) (λ i. g (suc i)) xs (λ i y l. h (suc i) y (omega arith)))
+anew-cong (suc n) f g (x ∷ xs) h =
+    rw (h 0 x (omega arith), anew-cong n (λ i. f (suc i)) (λ i. g (suc i)) xs (λ i y l. h (suc i) y (omega arith)))
 
 -- what stays as it is, row by row, stays
 pub anew-same : (n : ℕ) (f : ℕ → ℕ → ℕ) (xs : List ℕ) → ((i x : ℕ) → f i x ≡ x) → anew n f xs ≡ xs

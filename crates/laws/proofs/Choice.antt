@@ -1,28 +1,23 @@
 -- Laws of choices by a test and of lists of tests. Assumes nothing.
 use mathlib.Core.Path.{_≡_, refl, sym, subst, _∙_}
-use mathlib.Core.Bool.{Bool, true, false, not, _&&_, _||_}
+use mathlib.Core.Bool.{Bool, true, false, _&&_, _||_}
 use mathlib.Core.List.{List, [], _∷_}
 use mathlib.Core.Logic.{_⊎_, inl, inr}
 use Prim.Native.Nat.{ℕ, zero, suc, _≤_, _<_}
 use native.Mathlib.Omega.{arith}
-use lib.Dec.{T, leb}
+use lib.Dec.{T, leb, ltb}
 use lib.ListN.{length, getD}
-use borrow.Author.Tests.{leb-true, le-leb}
-use Rattle.laws.specs.Choice.{if_then_else_, every, within}
+use borrow.Author.Tests.{leb-true, le-leb, ltb-true, ltb-false}
+use Rattle.laws.specs.Choice.{if_then_else_, every, within, larger}
 
 pub clash : (b : Bool) → b ≡ true → b ≡ false → ⊥
 clash b p q = subst T (sym p ∙ q) tt
 
 -- a property of what a test chooses, from the property of each choice
-pub if-ind : {A : Type 0} (P : A → Type 0) (b : Bool) {x y : A} → (b ≡ true → P x) → (b ≡ false → P y) → P (if b then x else y)
+pub if-ind : {A : Type 0} (P : A → Type 0) (b : Bool) {x y : A} → (b ≡ true → P x) → (b ≡ false → P y) →
+    P (if b then x else y)
 if-ind P true f g = f refl
 if-ind P false f g = g refl
-
-pub if-true : {A : Type 0} (b : Bool) (x y : A) → b ≡ true → (if b then x else y) ≡ x
-if-true b x y e = rw e
-
-pub if-false : {A : Type 0} (b : Bool) (x y : A) → b ≡ false → (if b then x else y) ≡ y
-if-false b x y e = rw e
 
 pub and-true : (a b : Bool) → a ≡ true → b ≡ true → (a && b) ≡ true
 and-true a b p q = rw (p, q)
@@ -34,10 +29,6 @@ and-left false b e = e
 pub and-right : (a b : Bool) → (a && b) ≡ true → b ≡ true
 and-right true b e = e
 and-right false b e = absurd (clash false e refl)
-
-pub and-false : (a b : Bool) → a ≡ true → (a && b) ≡ false → b ≡ false
-and-false true b p e = e
-and-false false b p e = absurd (clash false p refl)
 
 pub or-true-left : (a b : Bool) → a ≡ true → (a || b) ≡ true
 or-true-left a b p = rw p
@@ -75,16 +66,6 @@ every-at [] e k = refl
 every-at (b ∷ bs) e zero = and-left b (every bs) e
 every-at (b ∷ bs) e (suc k) = every-at bs (and-right b (every bs) e) k
 
-pub every-not : (bs : List Bool) (k : ℕ) → getD bs k true ≡ false → every bs ≡ false
-unfolding every
-every-not [] k e = e
-every-not (b ∷ bs) zero e = rw e
-every-not (b ∷ bs) (suc k) e = go b (every-not bs k e)
-  where
-    go : (c : Bool) → every bs ≡ false → (c && every bs) ≡ false
-    go true h = h
-    go false h = refl
-
 -- as a loop over the tests has it: those there are hold, or one of them fails
 pub every-build : (bs : List Bool) → ((k : ℕ) → k < length bs → getD bs k false ≡ true) → true ≡ every bs
 unfolding every
@@ -106,3 +87,9 @@ pub le-or-lt : (a b : ℕ) → (a ≤ b) ⊎ (b < a)
 le-or-lt zero b = inl (omega arith)
 le-or-lt (suc a) zero = inr (omega arith)
 le-or-lt (suc a) (suc b) = elim (le-or-lt a b) [ inl p ↦ inl (omega arith) | inr q ↦ inr (omega arith) ]
+
+pub larger-left : (a b : ℕ) → a ≤ larger a b
+larger-left a b = if-ind (λ (n : ℕ). a ≤ n) (ltb a b) (λ e. omega (arith, ltb-true a b e)) (λ e. omega arith)
+
+pub larger-right : (a b : ℕ) → b ≤ larger a b
+larger-right a b = if-ind (λ (n : ℕ). b ≤ n) (ltb a b) (λ e. omega arith) (λ e. omega (arith, ltb-false a b e))

@@ -1,7 +1,7 @@
--- A search for the least x with f x ≤ x, where f never falls, may climb: from an r that fails to f r, since each x from r on and
--- below f r has x < f r ≤ f x. Assumes nothing.
+-- A search for the least x with f x ≤ x, where f never falls, may climb: from an r that fails to f
+-- r, since each x from r on and below f r has x < f r ≤ f x. Assumes nothing.
 use mathlib.Core.Path.{_≡_}
-use mathlib.Core.Bool.{Bool, true, false}
+use mathlib.Core.Bool.{Bool, false}
 use mathlib.Core.Logic.{_⊎_, inl, inr}
 use Prim.Native.Nat.{ℕ, _+_, _≤_, _<_}
 use native.Mathlib.Omega.{arith}
@@ -21,7 +21,8 @@ climb-start p low x h l = absurd (omega arith)
 
 module _ (f : ℕ → ℕ) (low : ℕ) where
   -- f need not fall only where the climb goes
-  pub climb-next : (r : ℕ) → ((x : ℕ) → r ≤ x → f r ≤ f x) → NonePasses (λ x. leb (f x) x) low r → NonePasses (λ x. leb (f x) x) low (f r)
+  pub climb-next : (r : ℕ) → ((x : ℕ) → r ≤ x → f r ≤ f x) → NonePasses (λ x. leb (f x) x) low r →
+      NonePasses (λ x. leb (f x) x) low (f r)
   climb-next r rises none x h l = go (le-or-lt r x)
     where
       go : (r ≤ x) ⊎ (x < r) → leb (f x) x ≡ false
@@ -29,8 +30,10 @@ module _ (f : ℕ → ℕ) (low : ℕ) where
       go (inr k) = none x h k
 
   -- what the climb stops at is what the search finds
-  pub climb-found : (n r : ℕ) → low ≤ r → r < low + n → f r ≤ r → NonePasses (λ x. leb (f x) x) low r → At r ≡ least (λ x. leb (f x) x) low n
+  pub climb-found : (n r : ℕ) → low ≤ r → r < low + n → f r ≤ r → NonePasses (λ x. leb (f x) x) low r →
+      At r ≡ least (λ x. leb (f x) x) low n
   climb-found n r h l e none = is-least (λ x. leb (f x) x) low n (At r) (hit r h l (le-leb (f r) r e) none)
 
-  pub climb-none : (n r : ℕ) → low + n ≤ r → NonePasses (λ x. leb (f x) x) low r → Nothing ≡ least (λ x. leb (f x) x) low n
+  pub climb-none : (n r : ℕ) → low + n ≤ r → NonePasses (λ x. leb (f x) x) low r →
+      Nothing ≡ least (λ x. leb (f x) x) low n
   climb-none n r h none = is-least (λ x. leb (f x) x) low n Nothing (miss (λ y k l. none y k (omega arith)))

@@ -1,5 +1,5 @@
 -- The highest marked row: what it is, and how a walk over the rows finds it. Assumes nothing.
-use mathlib.Core.Path.{_≡_, refl, sym, _∙_}
+use mathlib.Core.Path.{_≡_, refl}
 use mathlib.Core.Bool.{Bool, true, false, not, _&&_}
 use mathlib.Core.Logic.{_⊎_, inl, inr}
 use Prim.Native.Nat.{ℕ, zero, suc, _+_, _≤_, _<_}
@@ -10,9 +10,8 @@ use borrow.Author.Tests.{lt-ltb, le-ltb, ltb-true, ltb-false}
 use borrow.Author.Count.{below-more}
 use Rattle.laws.specs.declared.Found.{Found}
 use Rattle.laws.specs.declared.Found.the-variants.{At, Nothing}
-use Rattle.laws.specs.Search.{least}
 use Rattle.laws.specs.Rows.{allBelow, highest}
-use Rattle.laws.proofs.Choice.{clash, and-left, and-right, and-true, and-false, true-or-false}
+use Rattle.laws.proofs.Choice.{clash, and-true, true-or-false}
 use Rattle.laws.proofs.Search.{Searched, hit, miss, is-least}
 use Rattle.laws.proofs.Rows.{all-build, all-fails}
 
@@ -32,13 +31,15 @@ module _ (marked : ℕ → Bool) (priority : ℕ → ℕ) where
   pub picked-none : Picked 0 marked priority Nothing
   picked-none j h = absurd (omega arith)
 
-  pub picked-skip : (n : ℕ) (a : Found) → Picked n marked priority a → marked n ≡ false → Picked (n + 1) marked priority a
+  pub picked-skip : (n : ℕ) (a : Found) → Picked n marked priority a → marked n ≡ false →
+      Picked (n + 1) marked priority a
   picked-skip n Nothing f e = below-more (λ j. marked j ≡ false) n f e
   picked-skip n (At i) s e =
       record {
         below = omega (arith, s .below);
         is = s .is;
-        top = below-more (λ j. marked j ≡ true → priority j ≤ priority i) n (s .top) (λ q. absurd (clash (marked n) q e));
+        top =
+            below-more (λ j. marked j ≡ true → priority j ≤ priority i) n (s .top) (λ q. absurd (clash (marked n) q e));
         first = s .first;
       }
 
@@ -47,20 +48,26 @@ module _ (marked : ℕ → Bool) (priority : ℕ → ℕ) where
       record {
         below = omega arith;
         is = e;
-        top = below-more (λ j. marked j ≡ true → priority j ≤ priority n) n (λ j h q. absurd (clash (marked j) q (f j h))) (λ q. omega arith);
+        top =
+            below-more (λ j. marked j ≡ true → priority j ≤ priority n) n
+            (λ j h q. absurd (clash (marked j) q (f j h))) (λ q. omega arith);
         first = λ j h q. absurd (clash (marked j) q (f j h));
       }
 
-  pub picked-take : (n b : ℕ) → Picked n marked priority (At b) → marked n ≡ true → priority b < priority n → Picked (n + 1) marked priority (At n)
+  pub picked-take : (n b : ℕ) → Picked n marked priority (At b) → marked n ≡ true → priority b < priority n →
+      Picked (n + 1) marked priority (At n)
   picked-take n b s e l =
       record {
         below = omega arith;
         is = e;
-        top = below-more (λ j. marked j ≡ true → priority j ≤ priority n) n (λ j h q. omega (arith, s .top j h q)) (λ q. omega arith);
+        top =
+            below-more (λ j. marked j ≡ true → priority j ≤ priority n) n
+            (λ j h q. omega (arith, s .top j h q)) (λ q. omega arith);
         first = λ j h q. omega (arith, s .top j h q);
       }
 
-  pub picked-keep : (n b : ℕ) → Picked n marked priority (At b) → priority n ≤ priority b → Picked (n + 1) marked priority (At b)
+  pub picked-keep : (n b : ℕ) → Picked n marked priority (At b) → priority n ≤ priority b →
+      Picked (n + 1) marked priority (At b)
   picked-keep n b s l =
       record {
         below = omega (arith, s .below);
@@ -69,25 +76,30 @@ module _ (marked : ℕ → Bool) (priority : ℕ → ℕ) where
         first = s .first;
       }
 
-  not-higher : (i j : ℕ) → (marked j ≡ true → priority j ≤ priority i) → not (marked j && ltb (priority i) (priority j)) ≡ true
+  not-higher : (i j : ℕ) → (marked j ≡ true → priority j ≤ priority i) →
+      not (marked j && ltb (priority i) (priority j)) ≡ true
   not-higher i j f = go (marked j) refl
     where
       go : (b : Bool) → marked j ≡ b → not (b && ltb (priority i) (priority j)) ≡ true
       go true e = rw (le-ltb (priority i) (priority j) (f e))
       go false e = refl
 
-  is-higher : (i j : ℕ) → marked j ≡ true → priority i < priority j → not (marked j && ltb (priority i) (priority j)) ≡ false
+  is-higher : (i j : ℕ) → marked j ≡ true → priority i < priority j →
+      not (marked j && ltb (priority i) (priority j)) ≡ false
   is-higher i j e l = rw (e, lt-ltb (priority i) (priority j) l)
 
   -- who is picked is who is highest
   pub picked-is : (n : ℕ) (a : Found) → Picked n marked priority a → a ≡ highest n marked priority
   unfolding highest
-  picked-is n a p = is-least (λ i. marked i && allBelow n (λ j. not (marked j && ltb (priority i) (priority j)))) 0 n a (go a p)
+  picked-is n a p =
+      is-least (λ i. marked i && allBelow n (λ j. not (marked j && ltb (priority i) (priority j)))) 0 n a (go a p)
     where
-      no-mark : (i : ℕ) → marked i ≡ false → (marked i && allBelow n (λ j. not (marked j && ltb (priority i) (priority j)))) ≡ false
+      no-mark : (i : ℕ) → marked i ≡ false →
+          (marked i && allBelow n (λ j. not (marked j && ltb (priority i) (priority j)))) ≡ false
       no-mark i e = rw e
 
-      lower : (i k : ℕ) → k < n → marked k ≡ true → (marked i ≡ true → priority i < priority k) → (b : Bool) → marked i ≡ b →
+      lower : (i k : ℕ) → k < n → marked k ≡ true → (marked i ≡ true → priority i < priority k) → (b : Bool) →
+          marked i ≡ b →
           (b && allBelow n (λ j. not (marked j && ltb (priority i) (priority j)))) ≡ false
       lower i k h e l true q =
           all-fails (λ j. not (marked j && ltb (priority i) (priority j))) n k h (is-higher i k e (l q))
@@ -116,11 +128,13 @@ module _ (marked : ℕ → Bool) (priority : ℕ → ℕ) where
       one : (a : Found) → Picked (n + 1) marked priority a → (a : Found) × Picked (suc n) marked priority a
       one a p = (a, rw (add-one n) at p)
 
-      order : (b : ℕ) → Picked n marked priority (At b) → marked n ≡ true → (t : Bool) → ltb (priority b) (priority n) ≡ t → (a : Found) × Picked (suc n) marked priority a
+      order : (b : ℕ) → Picked n marked priority (At b) → marked n ≡ true → (t : Bool) →
+          ltb (priority b) (priority n) ≡ t → (a : Found) × Picked (suc n) marked priority a
       order b s e true q = one (At n) (picked-take n b s e (ltb-true (priority b) (priority n) q))
       order b s e false q = one (At b) (picked-keep n b s (ltb-false (priority b) (priority n) q))
 
-      go : (a : Found) → Picked n marked priority a → (marked n ≡ true) ⊎ (marked n ≡ false) → (a : Found) × Picked (suc n) marked priority a
+      go : (a : Found) → Picked n marked priority a → (marked n ≡ true) ⊎ (marked n ≡ false) →
+          (a : Found) × Picked (suc n) marked priority a
       go a p (inr e) = one a (picked-skip n a p e)
       go Nothing p (inl e) = one (At n) (picked-new n p e)
       go (At b) p (inl e) = order b p e (ltb (priority b) (priority n)) refl

@@ -1,12 +1,11 @@
 -- Laws of what holds of all or some rows, and of sums over rows. Assumes nothing.
-use mathlib.Core.Path.{_≡_, refl, sym, _∙_}
-use mathlib.Core.Bool.{Bool, true, false, not, _&&_, _||_}
+use mathlib.Core.Path.{_≡_, refl}
+use mathlib.Core.Bool.{Bool, true, false}
 use mathlib.Core.Logic.{_⊎_, inl, inr}
 use Prim.Native.Nat.{ℕ, zero, suc, _+_, _≤_, _<_}
 use native.Mathlib.Omega.{arith}
 use native.Mathlib.Numerals.{add-one}
 use borrow.Author.Count.{below-more}
-use Rattle.laws.specs.Choice.{if_then_else_}
 use Rattle.laws.specs.Rows.{allBelow, anyBelow, sumBelow}
 use Rattle.laws.proofs.Choice.{clash, and-left, and-right, and-true, or-cases, or-false, true-or-false}
 
@@ -27,7 +26,8 @@ pub all-at : (p : ℕ → Bool) (n k : ℕ) → allBelow n p ≡ true → k < n 
 unfolding allBelow
 all-at p zero k e h = absurd (omega arith)
 all-at p (suc n) k e h =
-    upto (λ j. p j ≡ true) n (λ j l. all-at p n j (and-left (allBelow n p) (p n) e) l) (and-right (allBelow n p) (p n) e) k h
+    upto (λ j. p j ≡ true) n (λ j l. all-at p n j (and-left (allBelow n p) (p n) e) l)
+    (and-right (allBelow n p) (p n) e) k h
 
 pub all-build : (p : ℕ → Bool) (n : ℕ) → ((k : ℕ) → k < n → p k ≡ true) → allBelow n p ≡ true
 unfolding allBelow
@@ -75,11 +75,6 @@ any-found p (suc n) e = go (or-cases (anyBelow n p) (p n) e) (any-found p n)
         (k : ℕ) × (k < suc n) × (p k ≡ true)
     go (inl a) ih = (ih a .0, omega (arith, ih a .1), ih a .2)
     go (inr b) ih = (n, omega arith, b)
-
-pub any-cong : (p q : ℕ → Bool) (n : ℕ) → ((k : ℕ) → k < n → p k ≡ q k) → anyBelow n p ≡ anyBelow n q
-unfolding anyBelow
-any-cong p q zero h = refl
-any-cong p q (suc n) h = rw (any-cong p q n (λ k l. h k (omega arith)), h n (omega arith))
 
 -- sums
 pub sum-next : (f : ℕ → ℕ) (n : ℕ) → sumBelow (n + 1) f ≡ sumBelow n f + f n

@@ -1,8 +1,9 @@
--- Choosing by a test, and lists of tests. Tests are Bool: `ltb`, `leb`, `eqb` of lib.Dec, `not`, `_&&_`, `_||_` of mathlib.Core.Bool.
+-- Choosing by a test, and lists of tests. Tests are Bool: `ltb`, `leb`, `eqb` of lib.Dec, `not`,
+-- `_&&_`, `_||_` of mathlib.Core.Bool.
 use mathlib.Core.Bool.{Bool, true, false, _&&_}
 use mathlib.Core.List.{List, [], _∷_}
 use Prim.Native.Nat.{ℕ}
-use lib.Dec.{leb}
+use lib.Dec.{leb, ltb}
 
 infixr 5 if_then_else_
 abbrev pub if_then_else_ : {A : Type 0} → Bool → A → A → A
@@ -22,3 +23,7 @@ every (b ∷ bs) = b && every bs
 -- `x` lies from `low` to `high`
 abbrev pub within : ℕ → ℕ → ℕ → Bool
 within low high x = leb low x && leb x high
+
+-- the larger of two numbers
+abbrev pub larger : ℕ → ℕ → ℕ
+larger a b = if ltb a b then b else a

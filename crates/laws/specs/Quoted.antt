@@ -1,4 +1,5 @@
--- A quoted text as bytes, and lines of it, each closed by a line feed. Every text that document 01 quotes has one byte a character.
+-- A quoted text as bytes, and lines of it, each closed by a line feed. Every text that document 01
+-- quotes has one byte a character.
 use mathlib.Core.List.{List, _++_}
 use mathlib.Core.List.{[] as none, _∷_ as _before_}
 use Prim.Native.Nat.{ℕ}

@@ -1,4 +1,5 @@
--- Rows are numbers below a count. What holds of all or some of them, their sum, the highest of them, and lists made anew row by row.
+-- Rows are numbers below a count. What holds of all or some of them, their sum, the highest of
+-- them, and lists made anew row by row.
 use mathlib.Core.Bool.{Bool, true, false, not, _&&_, _||_}
 use mathlib.Core.List.{List, [], _∷_}
 use Prim.Native.Nat.{ℕ, zero, suc, _+_}

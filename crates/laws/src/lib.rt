@@ -1,7 +1,8 @@
-// What the other crates' definitions and proofs share. The definitions are in specs/, their laws in proofs/.
+// What the other crates' definitions and proofs share. The definitions are in specs/, their laws in
+// proofs/.
 
 ghost use mathlib.Core.Path.{_≡_};
-ghost use Rattle.laws.specs.Choice.{every, within};
+ghost use Rattle.laws.specs.Choice.{every, within, larger};
 
 // A number that was looked for: a row, or a response.
 pub enum Found {
@@ -29,4 +30,14 @@ pub fn is_within(low: u64, high: u64, x: u64) -> bool
         return false;
     }
     x <= high
+}
+
+// The larger of two numbers.
+pub fn larger_of(a: u32, b: u32) -> u32
+    ensures { λ r. ⌜ r ≡ larger a b ⌝ }
+{
+    if a < b {
+        return b;
+    }
+    a
 }

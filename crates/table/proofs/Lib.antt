@@ -1,3 +1,3 @@
 pub mod Pairs
-pub mod Parts
+pub mod Inner
 pub mod Rules

@@ -1,26 +1,32 @@
 -- What a table that keeps the rules says of its counts, of each row in use and of each two rows.
 -- Each is one test of the rules, at its place in the list. Assumes nothing.
-use mathlib.Core.Path.{_≡_, refl, sym, _∙_}
+use mathlib.Core.Path.{_≡_, refl, sym, ap, _∙_}
 use mathlib.Core.Bool.{Bool, true, false, not, _&&_, _||_}
 use mathlib.Core.List.{List}
-use Prim.Native.Nat.{ℕ, _≤_, _<_}
+use Prim.Native.Nat.{ℕ, min, _≤_, _<_}
 use native.Mathlib.Omega.{arith}
 use lib.Dec.{leb, ltb, eqb}
-use lib.ListN.{length, getD, take}
-use lib.Seq.{length-take-le}
-use borrow.Author.Tests.{leb-true, ltb-true, eqb-true}
-use Rattle.laws.specs.Choice.{every, within}
+use lib.ListN.{length, getD, take, length-take}
+use lib.Seq.{length-take-le, getD-take}
+use borrow.Author.Tests.{leb-true, ltb-true, ltb-false, lt-ltb, le-ltb, eqb-true}
+use Rattle.laws.specs.Choice.{unless_say_else_, every, within}
 use Rattle.laws.specs.Rows.{allBelow}
 use Rattle.laws.proofs.Choice.{clash, and-left, and-right, every-at, within-low, within-high}
+use Rattle.table.specs.declared.ByMode.{ByMode}
+use Rattle.table.specs.declared.Refusal.{Refusal}
+use Rattle.table.specs.declared.Refusal.the-variants.{AbsentRow, OtherPartition, NotTimed, OtherServer, Falling}
+use Rattle.table.specs.declared.Standing.{Standing}
+use Rattle.table.specs.declared.Standing.the-variants.{Kept, Broken}
+use Rattle.table.specs.Refusals.{isKept}
 use Rattle.table.specs.declared.Mode.{Mode}
 use Rattle.table.specs.declared.Mode.the-variants.{N, D1, D2}
 use Rattle.table.specs.declared.Server.{Server}
 use Rattle.table.specs.declared.Task.{Task}
 use Rattle.table.specs.declared.Table.{Table}
 use Rattle.table.specs.Rows.{Rows, rowsOf, noServer, noTask, serverAt, taskAt, inMode, isTimed, priorityAt, periodAt, capacityAt, taskPriorityAt, limitAt}
-use Rattle.table.specs.Rules.{serverKeeps, taskKeeps, taskFits, differ, keeps, tableKeeps}
-use Rattle.table.specs.Parts.{rowsFit, Sized}
-use Rattle.table.proofs.Parts.{servers-in-use, tasks-in-use, servers-at, tasks-at, fits-rows, column-apart}
+use Rattle.table.specs.Rules.{serverKeeps, taskKeeps, rowsThere, samePartition, degradedTimed, timedAtHome, rising, taskFault, taskStands, differ, keeps, tableKeeps}
+use Rattle.table.specs.Inner.{Sized}
+use Rattle.table.proofs.Inner.{servers-in-use, tasks-in-use, servers-at, tasks-at, column-apart}
 
 pub record ServerRules (t : Table) (i : ℕ) : Type 0 where
   pub partition : serverAt t i .partition ≤ 15
@@ -81,13 +87,13 @@ server-rules t i e =
     each D2 x y z = z
 
 -- a limit of each mode
-limits-low : (k : Task) → every (taskKeeps k) ≡ true → (m : Mode) → 1 ≤ inMode (k .limit) m
+limits-low : (k : Task) → every (taskKeeps k) ≡ true → (m : Mode) → 1 ≤ inMode (k .limit) m .0
 unfolding taskKeeps
 limits-low k e N = within-low 1 100000 (k .limit .n .0) (every-at (taskKeeps k) e 1)
 limits-low k e D1 = within-low 1 100000 (k .limit .d1 .0) (every-at (taskKeeps k) e 2)
 limits-low k e D2 = within-low 1 100000 (k .limit .d2 .0) (every-at (taskKeeps k) e 3)
 
-limits-high : (k : Task) → every (taskKeeps k) ≡ true → (m : Mode) → inMode (k .limit) m ≤ 100000
+limits-high : (k : Task) → every (taskKeeps k) ≡ true → (m : Mode) → inMode (k .limit) m .0 ≤ 100000
 unfolding taskKeeps
 limits-high k e N = within-high 1 100000 (k .limit .n .0) (every-at (taskKeeps k) e 1)
 limits-high k e D1 = within-high 1 100000 (k .limit .d1 .0) (every-at (taskKeeps k) e 2)
@@ -97,64 +103,144 @@ task-priority : (k : Task) → every (taskKeeps k) ≡ true → within 1 255 (k 
 unfolding taskKeeps
 task-priority k e = every-at (taskKeeps k) e 0
 
+-- 4, the first that applies: what breaks nothing passes each test
+unless-kept : (b : Bool) (why : Refusal) (r : Standing) → isKept (unless b say Broken why else r) ≡ true → (b ≡ true) × (isKept r ≡ true)
+unless-kept true why r e = (refl, e)
+unless-kept false why r e = absurd (clash false e refl)
+
+kept-is : (s : Standing) → isKept s ≡ true → s ≡ Kept
+kept-is Kept e = refl
+kept-is (Broken why) e = absurd (clash false e refl)
+
+pub record Faultless (ss : List Server) (home degraded : ℕ) (limit : ByMode) : Type 0 where
+  pub there : rowsThere ss home degraded ≡ true
+  pub partition : samePartition ss home degraded ≡ true
+  pub timed : degradedTimed ss degraded ≡ true
+  pub stays : timedAtHome ss home degraded ≡ true
+  pub rises : rising limit ≡ true
+
+module _ (ss : List Server) (home degraded : ℕ) (limit : ByMode) where
+  pub faultless : isKept (taskFault ss home degraded limit) ≡ true → Faultless ss home degraded limit
+  unfolding taskFault
+  faultless e =
+      let a = unless-kept (rowsThere ss home degraded) AbsentRow _ e in
+      let b = unless-kept (samePartition ss home degraded) OtherPartition _ (a .1) in
+      let c = unless-kept (degradedTimed ss degraded) NotTimed _ (b .1) in
+      let d = unless-kept (timedAtHome ss home degraded) OtherServer _ (c .1) in
+      let f = unless-kept (rising limit) Falling _ (d .1) in
+      record { there = a .0; partition = b .0; timed = c .0; stays = d .0; rises = f .0 }
+
+  pub no-fault : Faultless ss home degraded limit → Kept ≡ taskFault ss home degraded limit
+  unfolding taskFault
+  no-fault f = rw (f .there, f .partition, f .timed, f .stays, f .rises)
+
+  -- the test that fails is told
+  pub home-absent : ltb home (length ss) ≡ false → Broken AbsentRow ≡ taskFault ss home degraded limit
+  unfolding taskFault
+  home-absent e = rw e
+
+  pub degraded-absent : ltb home (length ss) ≡ true → ltb degraded (length ss) ≡ false →
+      Broken AbsentRow ≡ taskFault ss home degraded limit
+  unfolding taskFault
+  degraded-absent e f = rw (e, f)
+
+  module _ (there : rowsThere ss home degraded ≡ true) where
+    pub other-partition : samePartition ss home degraded ≡ false → Broken OtherPartition ≡ taskFault ss home degraded limit
+    unfolding taskFault
+    other-partition e = rw (there, e)
+
+    module _ (partition : samePartition ss home degraded ≡ true) where
+      pub not-timed : degradedTimed ss degraded ≡ false → Broken NotTimed ≡ taskFault ss home degraded limit
+      unfolding taskFault
+      not-timed e = rw (there, partition, e)
+
+      pub other-server : degradedTimed ss degraded ≡ true → timedAtHome ss home degraded ≡ false →
+          Broken OtherServer ≡ taskFault ss home degraded limit
+      unfolding taskFault
+      other-server e f = rw (there, partition, e, f)
+
+      pub falling : degradedTimed ss degraded ≡ true → timedAtHome ss home degraded ≡ true → rising limit ≡ false →
+          Broken Falling ≡ taskFault ss home degraded limit
+      unfolding taskFault
+      falling e f g = rw (there, partition, e, f, g)
+
 -- the rows that a task names are there
-rows-there : (ss : List Server) (k : Task) → every (taskFits ss k) ≡ true → (k .home < length ss) × (k .degraded < length ss)
-unfolding taskFits
-rows-there ss k e =
-    let b = every-at (taskFits ss k) e 0 in (
-      ltb-true (k .home) (length ss) (and-left (ltb (k .home) (length ss)) (ltb (k .degraded) (length ss)) b),
-      ltb-true (k .degraded) (length ss) (and-right (ltb (k .home) (length ss)) (ltb (k .degraded) (length ss)) b),
-    )
+both-there : (n h d : ℕ) → (ltb h n && ltb d n) ≡ true → (h < n) × (d < n)
+both-there n h d e =
+    (ltb-true h n (and-left (ltb h n) (ltb d n) e), ltb-true d n (and-right (ltb h n) (ltb d n) e))
+
+pub rows-there : (ss : List Server) (home degraded : ℕ) (limit : ByMode) → taskFault ss home degraded limit ≡ Kept →
+    (home < length ss) × (degraded < length ss)
+rows-there ss home degraded limit e =
+    both-there (length ss) home degraded (faultless ss home degraded limit (ap isKept e) .there)
+
+-- a task's row keeps the rules exactly if its own numbers do and it has no fault
+pub stands : (ss : List Server) (k : Task) → every (taskKeeps k) ≡ true → taskFault ss (k .home) (k .degraded) (k .limit) ≡ Kept →
+    taskStands ss k ≡ true
+unfolding taskStands
+stands ss k e f = rw (e, f)
+
+pub stands-keeps : (ss : List Server) (k : Task) → taskStands ss k ≡ true →
+    (every (taskKeeps k) ≡ true) × (taskFault ss (k .home) (k .degraded) (k .limit) ≡ Kept)
+unfolding taskStands
+stands-keeps ss k e =
+    let x = every (taskKeeps k) in
+    let y = taskFault ss (k .home) (k .degraded) (k .limit) in
+    (and-left x (isKept y) e, kept-is y (and-right x (isKept y) e))
+
+-- a row below a count is the same row of the list and of its part in use
+pub in-use : (ss : List Server) (m n i : ℕ) → length ss ≡ m → (ltb i n && ltb i m) ≡ ltb i (length (take n ss))
+in-use ss m n i e = rw (length-take n ss, e) (go (ltb i n) (ltb i m) refl refl)
+  where
+    go : (a b : Bool) → ltb i n ≡ a → ltb i m ≡ b → (a && b) ≡ ltb i (min n m)
+    go true true p q = sym (lt-ltb i (min n m) (omega (arith, ltb-true i n p, ltb-true i m q)))
+    go true false p q = sym (le-ltb i (min n m) (omega (arith, ltb-false i m q)))
+    go false b p q = sym (le-ltb i (min n m) (omega (arith, ltb-false i n p)))
+
+same-row : (ss : List Server) (n i : ℕ) → i < length (take n ss) → getD (take n ss) i noServer ≡ getD ss i noServer
+same-row ss n i h = getD-take n ss i noServer (omega (arith, length-take n ss))
+
+module _ (ss : List Server) (n home degraded : ℕ) (there : rowsThere (take n ss) home degraded ≡ true) where
+  pub partition-in-use : samePartition (take n ss) home degraded ≡ samePartition ss home degraded
+  partition-in-use =
+      let r = both-there (length (take n ss)) home degraded there in
+      rw (same-row ss n home (r .0), same-row ss n degraded (r .1))
+
+  pub timed-in-use : degradedTimed (take n ss) degraded ≡ degradedTimed ss degraded
+  timed-in-use = rw (same-row ss n degraded (both-there (length (take n ss)) home degraded there .1))
+
+  pub home-in-use : timedAtHome (take n ss) home degraded ≡ timedAtHome ss home degraded
+  home-in-use = rw (same-row ss n home (both-there (length (take n ss)) home degraded there .0))
 
 -- a timed home
 at-home : (timed : Bool) (d h : ℕ) → (not timed || eqb d h) ≡ true → timed ≡ true → d ≡ h
 at-home true d h e q = eqb-true d h e
 at-home false d h e q = absurd (clash false q refl)
 
-record Beside (k : Task) (home degraded : Server) : Type 0 where
-  pub partition : degraded .partition ≡ home .partition
-  pub timed : isTimed (degraded .kind) ≡ true
-  pub stays : isTimed (home .kind) ≡ true → k .degraded ≡ k .home
-  pub rises : k .limit .n .0 ≤ k .limit .d1 .0
-  pub rises-on : k .limit .d1 .0 ≤ k .limit .d2 .0
-
-beside : (k : Task) (home degraded : Server) → every (rowsFit k home degraded) ≡ true → Beside k home degraded
-unfolding rowsFit
-beside k home degraded e =
-    let b = every-at (rowsFit k home degraded) e in
-    let x = k .limit in
-    record {
-      partition = eqb-true (degraded .partition) (home .partition) (b 0);
-      timed = b 1;
-      stays = at-home (isTimed (home .kind)) (k .degraded) (k .home) (b 2);
-      rises = leb-true (x .n .0) (x .d1 .0) (and-left (leb (x .n .0) (x .d1 .0)) (leb (x .d1 .0) (x .d2 .0)) (b 3));
-      rises-on = leb-true (x .d1 .0) (x .d2 .0) (and-right (leb (x .n .0) (x .d1 .0)) (leb (x .d1 .0) (x .d2 .0)) (b 3));
-    }
-
 -- a task's row
-pub task-rules : (t : Table) (k : ℕ) → t .nservers ≤ length (t .servers) → every (taskKeeps (taskAt t k)) ≡ true →
-    every (taskFits (take (t .nservers) (t .servers)) (taskAt t k)) ≡ true → TaskRules t k
-task-rules t k l e f =
+pub task-rules : (t : Table) (k : ℕ) → t .nservers ≤ length (t .servers) → taskStands (take (t .nservers) (t .servers)) (taskAt t k) ≡ true → TaskRules t k
+task-rules t k l e =
     let n = t .nservers in
     let ss = t .servers in
     let x = taskAt t k in
-    let r = rows-there (take n ss) x f in
-    let h : x .home < n = omega (arith, r .0, length-take-le n ss l) in
-    let d : x .degraded < n = omega (arith, r .1, length-take-le n ss l) in
-    let b = beside x (getD ss (x .home) noServer) (getD ss (x .degraded) noServer) (sym (fits-rows ss n x l h d) ∙ f) in
-    let p = task-priority x e in
+    let y = stands-keeps (take n ss) x e in
+    let f = faultless (take n ss) (x .home) (x .degraded) (x .limit) (ap isKept (y .1)) in
+    let r = both-there (length (take n ss)) (x .home) (x .degraded) (f .there) in
+    let p = task-priority x (y .0) in
+    let z = x .limit in
     record {
-      home = h;
-      degraded = d;
+      home = omega (arith, r .0, length-take-le n ss l);
+      degraded = omega (arith, r .1, length-take-le n ss l);
       priority-low = within-low 1 255 (x .priority) p;
       priority-high = within-high 1 255 (x .priority) p;
-      timed = b .timed;
-      partition = b .partition;
-      stays = b .stays;
-      limit-low = limits-low x e;
-      limit-high = limits-high x e;
-      rises = b .rises;
-      rises-on = b .rises-on;
+      timed = sym (timed-in-use ss n (x .home) (x .degraded) (f .there)) ∙ f .timed;
+      partition = eqb-true _ _ (sym (partition-in-use ss n (x .home) (x .degraded) (f .there)) ∙ f .partition);
+      stays = at-home (isTimed (getD ss (x .home) noServer .kind)) (x .degraded) (x .home)
+          (sym (home-in-use ss n (x .home) (x .degraded) (f .there)) ∙ f .stays);
+      limit-low = limits-low x (y .0);
+      limit-high = limits-high x (y .0);
+      rises = leb-true (z .n .0) (z .d1 .0) (and-left (leb (z .n .0) (z .d1 .0)) (leb (z .d1 .0) (z .d2 .0)) (f .rises));
+      rises-on = leb-true (z .d1 .0) (z .d2 .0) (and-right (leb (z .n .0) (z .d1 .0)) (leb (z .d1 .0) (z .d2 .0)) (f .rises));
     }
 
 -- the tests of a whole table, by place
@@ -175,7 +261,7 @@ rows-keep t e =
 record Tests (a : Rows) : Type 0 where
   pub tick : within 1 10000 (a .tick .0) ≡ true
   pub servers : allBelow (length (a .servers)) (λ i. every (serverKeeps (getD (a .servers) i noServer))) ≡ true
-  pub tasks : allBelow (length (a .tasks)) (λ k. every (taskKeeps (getD (a .tasks) k noTask)) && every (taskFits (a .servers) (getD (a .tasks) k noTask))) ≡ true
+  pub tasks : allBelow (length (a .tasks)) (λ k. taskStands (a .servers) (getD (a .tasks) k noTask)) ≡ true
   pub apart : differ (length (a .servers)) (λ i. getD (a .servers) i noServer .priority) ≡ true
   pub distinct : differ (length (a .tasks)) (λ k. getD (a .tasks) k noTask .priority) ≡ true
 
@@ -203,12 +289,7 @@ table-rules t z e =
       tick-low = within-low 1 10000 (t .tick .0) (a .tick);
       tick-high = within-high 1 10000 (t .tick .0) (a .tick);
       server = λ i h. server-rules t i (servers-at (t .servers) (t .nservers) i p h);
-      task =
-          λ k h.
-          let r = tasks-at (t .tasks) (t .ntasks) (t .servers) (t .nservers) k q h in
-          let x = every (taskKeeps (taskAt t k)) in
-          let y = every (taskFits (take (t .nservers) (t .servers)) (taskAt t k)) in
-          task-rules t k l (and-left x y r) (and-right x y r);
+      task = λ k h. task-rules t k l (tasks-at (t .tasks) (t .ntasks) (t .servers) (t .nservers) k q h);
       servers-differ = column-apart (λ s. s .priority) noServer (t .servers) (t .nservers) l (a .apart);
       tasks-differ = column-apart (λ k. k .priority) noTask (t .tasks) (t .ntasks) o (a .distinct);
     }

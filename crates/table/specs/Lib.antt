@@ -2,4 +2,4 @@ pub mod Refusals
 pub mod Rows
 pub mod Rules
 pub mod Pairs
-pub mod Parts
+pub mod Inner

@@ -1,6 +1,5 @@
--- 01, Numbers for no: "5 for the first pair of server rows with equal priority, smaller row first (pairs ordered by it, then by
--- the larger row), then the same for tasks".
-use mathlib.Core.Bool.{Bool}
+-- 01, Numbers for no: "5 for the first pair of server rows with equal priority, smaller row first
+-- (pairs ordered by it, then by the larger row), then the same for tasks".
 use Prim.Native.Nat.{ℕ, suc, _-_}
 use lib.Dec.{eqb}
 use Rattle.laws.specs.declared.Found.{Found}

@@ -1,7 +1,11 @@
--- 01, Numbers for no: the paper's number of each reason. The five reasons of 4 stand in the order in which they are looked for.
+-- 01, Numbers for no: the paper's number of each reason. The five reasons of 4 stand in the order
+-- in which they are looked for.
+use mathlib.Core.Bool.{Bool, true, false}
 use Prim.Native.Nat.{ℕ}
 use Rattle.table.specs.declared.Refusal.{Refusal}
 use Rattle.table.specs.declared.Refusal.the-variants.{Malformed, OutOfBounds, NotWhole, AbsentRow, OtherPartition, NotTimed, OtherServer, Falling, EqualPriorities, NoTask, LowInD2, QueueFull, NoJobRan, CountSpent, NoServer, RoomShort, Unsound}
+use Rattle.table.specs.declared.Standing.{Standing}
+use Rattle.table.specs.declared.Standing.the-variants.{Kept, Broken}
 
 abbrev pub numberOf : Refusal → ℕ
 -- malformed, missing or misplaced line, or unknown word
@@ -34,3 +38,12 @@ numberOf NoServer = 11
 numberOf RoomShort = 12
 -- a table or state handed in breaks the rules of this page
 numberOf Unsound = 13
+
+-- The paper's number of a standing, 0 where the rules are kept.
+abbrev pub standingNumber : Standing → ℕ
+standingNumber Kept = 0
+standingNumber (Broken why) = numberOf why
+
+abbrev pub isKept : Standing → Bool
+isKept Kept = true
+isKept (Broken why) = false

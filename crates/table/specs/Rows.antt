@@ -1,8 +1,10 @@
--- A table's rows, by number, and the rows in use. "Tables and states are compared on the rows in use."
+-- A table's rows, by number, and the rows in use. "Tables and states are compared on the rows in
+-- use."
 use mathlib.Core.Bool.{Bool, true, false}
 use mathlib.Core.List.{List, [], _++_}
 use Prim.Native.Nat.{ℕ, _-_}
 use lib.ListN.{length, getD, take, replicate}
+use Rattle.laws.specs.Choice.{larger}
 use Rattle.units.specs.declared.Ticks.{Ticks}
 use Rattle.units.specs.declared.Micros.{Micros}
 use Rattle.table.specs.declared.Kind.{Kind}
@@ -25,6 +27,11 @@ isLow LO = true
 isLow MI = false
 isLow HI = false
 
+abbrev pub isD2 : Mode → Bool
+isD2 N = false
+isD2 D1 = false
+isD2 D2 = true
+
 -- what a row that holds nothing holds
 abbrev pub noTicks : ByMode
 noTicks = record { n = record { 0 = 0 }; d1 = record { 0 = 0 }; d2 = record { 0 = 0 } }
@@ -41,11 +48,15 @@ serverAt t i = getD (t .servers) i noServer
 abbrev pub taskAt : Table → ℕ → Task
 taskAt t k = getD (t .tasks) k noTask
 
--- "capacities in N, D1, D2", "limits for N, D1, D2": the one of a mode, in ticks
-abbrev pub inMode : ByMode → Mode → ℕ
-inMode x N = x .n .0
-inMode x D1 = x .d1 .0
-inMode x D2 = x .d2 .0
+-- "capacities in N, D1, D2", "limits for N, D1, D2": the one of a mode
+abbrev pub inMode : ByMode → Mode → Ticks
+inMode x N = x .n
+inMode x D1 = x .d1
+inMode x D2 = x .d2
+
+-- "its largest capacity"
+abbrev pub largest : ByMode → Ticks
+largest x = record { 0 = larger (larger (x .n .0) (x .d1 .0)) (x .d2 .0) }
 
 abbrev pub priorityAt : Table → ℕ → ℕ
 priorityAt t i = serverAt t i .priority
@@ -54,13 +65,13 @@ abbrev pub periodAt : Table → ℕ → ℕ
 periodAt t i = serverAt t i .period .0
 
 abbrev pub capacityAt : Table → Mode → ℕ → ℕ
-capacityAt t m i = inMode (serverAt t i .capacity) m
+capacityAt t m i = inMode (serverAt t i .capacity) m .0
 
 abbrev pub taskPriorityAt : Table → ℕ → ℕ
 taskPriorityAt t k = taskAt t k .priority
 
 abbrev pub limitAt : Table → Mode → ℕ → ℕ
-limitAt t m k = inMode (taskAt t k .limit) m
+limitAt t m k = inMode (taskAt t k .limit) m .0
 
 -- the rows in use, and nothing else of a table
 pub record Rows : Type 0 where
@@ -88,3 +99,7 @@ tableOf a =
       servers = padded 32 noServer (a .servers);
       tasks = padded 64 noTask (a .tasks);
     }
+
+-- the table beside a refusal: no tick and no rows
+abbrev pub noTable : Table
+noTable = tableOf noRows

@@ -1,23 +1,28 @@
 -- 01, Tables: the rules that a table keeps, in ticks.
-use mathlib.Core.Bool.{Bool, true, false, not, _&&_, _||_}
+use mathlib.Core.Bool.{Bool, not, _&&_, _||_}
 use mathlib.Core.List.{List, [], _∷_}
 use Prim.Native.Nat.{ℕ}
 use lib.Dec.{leb, ltb, eqb}
 use lib.ListN.{length, getD}
-use Rattle.laws.specs.Choice.{every, within}
+use Rattle.laws.specs.Choice.{unless_say_else_, every, within}
 use Rattle.laws.specs.Rows.{allBelow}
+use Rattle.table.specs.declared.Kind.{Kind}
 use Rattle.table.specs.declared.ByMode.{ByMode}
 use Rattle.table.specs.declared.Server.{Server}
 use Rattle.table.specs.declared.Task.{Task}
 use Rattle.table.specs.declared.Table.{Table}
+use Rattle.table.specs.declared.Refusal.the-variants.{AbsentRow, OtherPartition, NotTimed, OtherServer, Falling}
+use Rattle.table.specs.declared.Standing.{Standing}
+use Rattle.table.specs.declared.Standing.the-variants.{Kept, Broken}
+use Rattle.table.specs.Refusals.{isKept}
 use Rattle.table.specs.Rows.{Rows, rowsOf, noServer, noTask, isTimed}
 
 -- "`tick`: microseconds in a tick, 1 to 10,000."
 abbrev pub tickKeeps : ℕ → Bool
 tickKeeps = within 1 10000
 
--- "partition 0 to 15; kind; priority 1 to 255, greater first; period; capacities in N, D1, D2. Period 1 to 1,000,000 ticks,
--- capacity 0 to the period"
+-- "partition 0 to 15; kind; priority 1 to 255, greater first; period; capacities in N, D1, D2.
+-- Period 1 to 1,000,000 ticks, capacity 0 to the period"
 unfoldable pub serverKeeps : Server → List Bool
 serverKeeps s =
     within 0 15 (s .partition)
@@ -28,7 +33,8 @@ serverKeeps s =
     ∷ leb (s .capacity .d2 .0) (s .period .0)
     ∷ []
 
--- "priority 1 to 255, greater first; level; limits for N, D1, D2, each rounded up to a tick, then 1 to 100,000"
+-- "priority 1 to 255, greater first; level; limits for N, D1, D2, each rounded up to a tick, then 1
+-- to 100,000"
 unfoldable pub taskKeeps : Task → List Bool
 taskKeeps k =
     within 1 255 (k .priority)
@@ -38,26 +44,40 @@ taskKeeps k =
     ∷ []
 
 -- "home server; degraded server": rows of the table
-abbrev pub rowsThere : List Server → Task → Bool
-rowsThere ss k = ltb (k .home) (length ss) && ltb (k .degraded) (length ss)
+abbrev pub rowsThere : List Server → ℕ → ℕ → Bool
+rowsThere ss home degraded = ltb home (length ss) && ltb degraded (length ss)
 
 -- "The degraded server is timed and of the home's partition; for a timed home it is the home."
-abbrev pub samePartition : List Server → Task → Bool
-samePartition ss k = eqb (getD ss (k .degraded) noServer .partition) (getD ss (k .home) noServer .partition)
+abbrev pub samePartition : List Server → ℕ → ℕ → Bool
+samePartition ss home degraded = eqb (getD ss degraded noServer .partition) (getD ss home noServer .partition)
 
-abbrev pub degradedTimed : List Server → Task → Bool
-degradedTimed ss k = isTimed (getD ss (k .degraded) noServer .kind)
+abbrev pub degradedTimed : List Server → ℕ → Bool
+degradedTimed ss degraded = isTimed (getD ss degraded noServer .kind)
 
-abbrev pub timedAtHome : List Server → Task → Bool
-timedAtHome ss k = not (isTimed (getD ss (k .home) noServer .kind)) || eqb (k .degraded) (k .home)
+abbrev pub staysHome : Kind → ℕ → ℕ → Bool
+staysHome kind home degraded = not (isTimed kind) || eqb degraded home
+
+abbrev pub timedAtHome : List Server → ℕ → ℕ → Bool
+timedAtHome ss home degraded = staysHome (getD ss home noServer .kind) home degraded
 
 -- "and not falling"
 abbrev pub rising : ByMode → Bool
 rising x = leb (x .n .0) (x .d1 .0) && leb (x .d1 .0) (x .d2 .0)
 
-unfoldable pub taskFits : List Server → Task → List Bool
-taskFits ss k =
-    rowsThere ss k ∷ samePartition ss k ∷ degradedTimed ss k ∷ timedAtHome ss k ∷ rising (k .limit) ∷ []
+-- 4, "server row absent (however great its number), wrong degraded server, falling limits": the
+-- first that applies
+unfoldable pub taskFault : List Server → ℕ → ℕ → ByMode → Standing
+taskFault ss home degraded limit =
+    unless rowsThere ss home degraded say Broken AbsentRow
+    else unless samePartition ss home degraded say Broken OtherPartition
+    else unless degradedTimed ss degraded say Broken NotTimed
+    else unless timedAtHome ss home degraded say Broken OtherServer
+    else unless rising limit say Broken Falling
+    else Kept
+
+-- a task's row, beside the servers
+unfoldable pub taskStands : List Server → Task → Bool
+taskStands ss k = every (taskKeeps k) && isKept (taskFault ss (k .home) (k .degraded) (k .limit))
 
 -- "Server priorities differ from one another; so do task priorities."
 unfoldable pub differ : ℕ → (ℕ → ℕ) → Bool
@@ -70,13 +90,12 @@ keeps a =
     ∷ within 1 32 (length (a .servers))
     ∷ within 1 64 (length (a .tasks))
     ∷ allBelow (length (a .servers)) (λ i. every (serverKeeps (getD (a .servers) i noServer)))
-    ∷ allBelow
-    (length (a .tasks))
-    (λ k. every (taskKeeps (getD (a .tasks) k noTask)) && every (taskFits (a .servers) (getD (a .tasks) k noTask)))
+    ∷ allBelow (length (a .tasks)) (λ k. taskStands (a .servers) (getD (a .tasks) k noTask))
     ∷ differ (length (a .servers)) (λ i. getD (a .servers) i noServer .priority)
     ∷ differ (length (a .tasks)) (λ k. getD (a .tasks) k noTask .priority)
     ∷ [])
 
--- A table that is handed in: its counts are within what a run holds, and its rows in use keep the rules.
+-- A table that is handed in: its counts are within what a run holds, and its rows in use keep the
+-- rules.
 unfoldable pub tableKeeps : Table → Bool
 tableKeeps t = within 1 32 (t .nservers) && (within 1 64 (t .ntasks) && keeps (rowsOf t))

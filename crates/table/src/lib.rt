@@ -1,15 +1,18 @@
-// A table's types, and whether a table keeps the rules. (01, Tables.) The rules are in specs/Rules.antt.
+// A table's types, and whether a table keeps the rules. (01, Tables.) The rules are in
+// specs/Rules.antt.
 
 use units::Micros;
 use units::Ticks;
 ghost use mathlib.Core.Path.{_≡_};
-ghost use lib.ListN.{length, getD};
+ghost use mathlib.Core.Bool.{_&&_};
+ghost use lib.Dec.{ltb};
+ghost use lib.ListN.{length, getD, take};
 ghost use Prim.Native.Nat.{_≤_};
 ghost use Rattle.laws.specs.Choice.{every};
-ghost use Rattle.table.specs.Refusals.{numberOf};
-ghost use Rattle.table.specs.Rows.{inMode, isTimed, isLow};
-ghost use Rattle.table.specs.Rules.{serverKeeps, taskKeeps, rising, differ, tableKeeps};
-ghost use Rattle.table.specs.Parts.{staysHome, rowsFit, serversKeep, tasksKeep, serverPriorities, taskPriorities};
+ghost use Rattle.table.specs.Refusals.{numberOf, isKept};
+ghost use Rattle.table.specs.Rows.{inMode, largest, isTimed, isLow, isD2, noTable};
+ghost use Rattle.table.specs.Rules.{serverKeeps, taskKeeps, taskFault, taskStands, staysHome, rising, differ, tableKeeps};
+ghost use Rattle.table.specs.Inner.{serversKeep, tasksKeep, serverPriorities, taskPriorities};
 ghost use Rattle.table.specs.Pairs.{firstPair};
 
 // A run holds at most so many rows of each kind.
@@ -112,14 +115,61 @@ pub fn number_of(why: Refusal) -> u64
     }
 }
 
+// Whether a line or a row keeps the rules where it stands, or which it breaks.
+pub enum Standing {
+    Kept,
+    Broken(Refusal),
+}
+
+fn is_kept(s: Standing) -> bool
+    ensures { λ r. ⌜ r ≡ isKept s ⌝ }
+{
+    match s {
+        Standing::Kept => true,
+        Standing::Broken(_) => false,
+    }
+}
+
+// The table that stands beside a refusal, and that reading begins with: no tick and no rows.
+pub fn no_table() -> Table
+    ensures { λ r. ⌜ r ≡ noTable ⌝ }
+{
+    let none = ByMode {
+        n: Ticks(0),
+        d1: Ticks(0),
+        d2: Ticks(0),
+    };
+    let s = Server {
+        partition: 0,
+        kind: Kind::Event,
+        priority: 0,
+        period: Ticks(0),
+        capacity: none,
+    };
+    let k = Task {
+        home: 0,
+        degraded: 0,
+        priority: 0,
+        level: Level::LO,
+        limit: none,
+    };
+    Table {
+        tick: Micros(0),
+        nservers: 0,
+        ntasks: 0,
+        servers: [s; SERVERS],
+        tasks: [k; TASKS],
+    }
+}
+
 // Two rows of equal priority, the smaller first, or none.
 pub enum Pair {
     Equal(usize, usize),
     Differ,
 }
 
-// The first pair of equal priorities, rows from 0. Servers and tasks are both asked so: a caller lends the priorities of its
-// rows in use.
+// The first pair of equal priorities, rows from 0. Servers and tasks are both asked so: a caller
+// lends the priorities of its rows in use.
 pub fn first_pair(xs: &[u8]) -> Pair
     ensures { λ r. ⌜ r ≡ firstPair (length (now (xs .entry))) (λ i. getD (now (xs .entry)) i 0) ⌝ }
 {
@@ -157,7 +207,7 @@ pub fn task_priorities(ks: [Task; TASKS]) -> [u8; TASKS]
 }
 
 // Whether the lent priorities differ from one another: where the search for a pair finds none.
-pub fn all_differ(xs: &[u8]) -> bool
+fn all_differ(xs: &[u8]) -> bool
     ensures { λ r. ⌜ r ≡ differ (length (now (xs .entry))) (λ i. getD (now (xs .entry)) i 0) ⌝ }
 {
     let p = first_pair(xs);
@@ -167,19 +217,28 @@ pub fn all_differ(xs: &[u8]) -> bool
     }
 }
 
-// The number of a mode: a match, since rows hold the three by name.
-pub fn in_mode(x: ByMode, m: Mode) -> u32
+// The one of a mode: a match, since rows hold the three by name.
+pub fn in_mode(x: ByMode, m: Mode) -> Ticks
     ensures { λ r. ⌜ r ≡ inMode x m ⌝ }
 {
     match m {
-        Mode::N => x.n.0,
-        Mode::D1 => x.d1.0,
-        Mode::D2 => x.d2.0,
+        Mode::N => x.n,
+        Mode::D1 => x.d1,
+        Mode::D2 => x.d2,
     }
 }
 
-// Kinds and levels are asked for by these: two values of an enum are not compared.
-pub fn is_timed(k: Kind) -> bool
+// The largest of the three.
+pub fn largest_of(x: ByMode) -> Ticks
+    ensures { λ r. ⌜ r ≡ largest x ⌝ }
+{
+    let two = laws::larger_of(x.n.0, x.d1.0);
+    let all = laws::larger_of(two, x.d2.0);
+    Ticks(all)
+}
+
+// Kinds, levels and modes are asked for by these: two values of an enum are not compared.
+fn is_timed(k: Kind) -> bool
     ensures { λ r. ⌜ r ≡ isTimed k ⌝ }
 {
     match k {
@@ -198,8 +257,18 @@ pub fn is_low(l: Level) -> bool
     }
 }
 
+pub fn is_d2(m: Mode) -> bool
+    ensures { λ r. ⌜ r ≡ isD2 m ⌝ }
+{
+    match m {
+        Mode::N => false,
+        Mode::D1 => false,
+        Mode::D2 => true,
+    }
+}
+
 // Whether limits do not fall from mode to mode.
-pub fn is_rising(x: ByMode) -> bool
+fn is_rising(x: ByMode) -> bool
     ensures { λ r. ⌜ r ≡ rising x ⌝ }
 {
     if x.d1.0 < x.n.0 {
@@ -208,8 +277,9 @@ pub fn is_rising(x: ByMode) -> bool
     x.d1.0 <= x.d2.0
 }
 
-// Whether a task of a timed home has it for its degraded server too; of an event home it may have another.
-pub fn stays_home(kind: Kind, home: u8, degraded: u8) -> bool
+// Whether a task of a timed home has it for its degraded server too; of an event home it may have
+// another.
+fn stays_home(kind: Kind, home: u64, degraded: u64) -> bool
     ensures { λ r. ⌜ r ≡ staysHome kind home degraded ⌝ }
 {
     match kind {
@@ -219,7 +289,7 @@ pub fn stays_home(kind: Kind, home: u8, degraded: u8) -> bool
 }
 
 // The rules of a server's row and of a task's row, a flag for each test of the rule, in its order.
-pub fn server_keeps(s: Server) -> bool
+fn server_keeps(s: Server) -> bool
     ensures { λ r. ⌜ r ≡ every (serverKeeps s) ⌝ }
 {
     let partition = laws::is_within(0, 15, s.partition as u64);
@@ -238,7 +308,7 @@ pub fn server_keeps(s: Server) -> bool
     )
 }
 
-pub fn task_keeps(k: Task) -> bool
+fn task_keeps(k: Task) -> bool
     ensures { λ r. ⌜ r ≡ every (taskKeeps k) ⌝ }
 {
     let priority = laws::is_within(1, 255, k.priority as u64);
@@ -249,17 +319,62 @@ pub fn task_keeps(k: Task) -> bool
     laws::all_of(&[priority, n, d1, d2])
 }
 
-// Whether a task may have these two rows for its home and its degraded server.
-pub fn rows_fit(k: Task, home: Server, degraded: Server) -> bool
-    ensures { λ r. ⌜ r ≡ every (rowsFit k home degraded) ⌝ }
+// Whether a row, "however great its number", is among the first count.
+fn is_there(row: u64, count: usize) -> bool
+    ensures { λ r. ⌜ r ≡ (ltb row count && ltb row 32) ⌝ }
 {
-    let kind = degraded.kind;
-    let timed = is_timed(kind);
-    let base = home.kind;
-    let stays = stays_home(base, k.home, k.degraded);
-    let x = k.limit;
-    let rises = is_rising(x);
-    laws::all_of(&[degraded.partition == home.partition, timed, stays, rises])
+    if count as u64 <= row {
+        return false;
+    }
+    row < SERVERS as u64
+}
+
+// What a task breaks of the rules on its home, its degraded server and its limits, or nothing: the
+// first that applies. The two rows are read once both are known to be there, among the first count.
+pub fn task_fault(
+    ss: [Server; SERVERS],
+    count: usize,
+    home: u64,
+    degraded: u64,
+    limit: ByMode,
+) -> Standing
+    ensures { λ r. ⌜ r ≡ taskFault (take count ss) home degraded limit ⌝ }
+{
+    if !is_there(home, count) {
+        return Standing::Broken(Refusal::AbsentRow);
+    }
+    if !is_there(degraded, count) {
+        return Standing::Broken(Refusal::AbsentRow);
+    }
+    let h = ss[home as usize];
+    let d = ss[degraded as usize];
+    if d.partition != h.partition {
+        return Standing::Broken(Refusal::OtherPartition);
+    }
+    let kind = d.kind;
+    if !is_timed(kind) {
+        return Standing::Broken(Refusal::NotTimed);
+    }
+    let base = h.kind;
+    if !stays_home(base, home, degraded) {
+        return Standing::Broken(Refusal::OtherServer);
+    }
+    if !is_rising(limit) {
+        return Standing::Broken(Refusal::Falling);
+    }
+    Standing::Kept
+}
+
+// Whether a task's row keeps the rules beside the first n servers.
+fn task_stands(k: Task, ss: [Server; SERVERS], n: usize) -> bool
+    ensures { λ r. ⌜ r ≡ taskStands (take n ss) k ⌝ }
+{
+    if !task_keeps(k) {
+        return false;
+    }
+    let limit = k.limit;
+    let fault = task_fault(ss, n, k.home as u64, k.degraded as u64, limit);
+    is_kept(fault)
 }
 
 // The rows past the count hold nothing that is asked about.
@@ -276,34 +391,21 @@ fn servers_keep(ss: [Server; SERVERS], n: usize) -> bool
     true
 }
 
-// The two server rows are read once both are known to be there.
 fn tasks_keep(ks: [Task; TASKS], m: usize, ss: [Server; SERVERS], n: usize) -> bool
-    requires { ⌜ (m ≤ 64) × (n ≤ 32) ⌝ }
+    requires { ⌜ m ≤ 64 ⌝ }
     ensures { λ r. ⌜ r ≡ tasksKeep ks m ss n ⌝ }
 {
     for i in 0..m {
         let k = ks[i];
-        let home = k.home as usize;
-        let degraded = k.degraded as usize;
-        if !task_keeps(k) {
-            return false;
-        }
-        if home >= n {
-            return false;
-        }
-        if degraded >= n {
-            return false;
-        }
-        let h = ss[home];
-        let d = ss[degraded];
-        if !rows_fit(k, h, d) {
+        if !task_stands(k, ss, n) {
             return false;
         }
     }
     true
 }
 
-// Whether a table keeps the rules of 01, Tables. Counts come first: no row past the arrays is then asked for.
+// Whether a table keeps the rules of 01, Tables. Counts come first: no row past the arrays is then
+// asked for.
 pub fn table_keeps(t: Table) -> bool
     ensures { λ r. ⌜ r ≡ tableKeeps t ⌝ }
 {

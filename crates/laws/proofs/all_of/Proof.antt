@@ -1,5 +1,5 @@
--- `laws::all_of` meets its contract: each test passed holds, so the first that does not decides, and past the last all do.
--- Assumes nothing.
+-- `laws::all_of` meets its contract: each test passed holds, so the first that does not decides,
+-- and past the last all do. Assumes nothing.
 use Prim.Native.Nat.{ℕ, _≤_, _<_, _-_}
 use mathlib.Core.Path.{_≡_}
 use mathlib.Core.Bool.{true, false}
@@ -51,13 +51,5 @@ returns-2 c =
 pub all-of-spec : {M : Type 1} → statement M
 all-of-spec =
     tie.close
-    (tie.spec
-    Inv-loop
-    μ-loop
-    loop-holds
-    shared-slice-read-if1
-    returns
-    add-i
-    loop-less
-    loop-again
+    (tie.spec Inv-loop μ-loop loop-holds shared-slice-read-if1 returns add-i loop-less loop-again
     returns-2)

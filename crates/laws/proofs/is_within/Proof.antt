@@ -1,5 +1,5 @@
--- `laws::is_within` meets its contract: the two tests are those of `within`, the first decided by a branch.
--- Assumes nothing.
+-- `laws::is_within` meets its contract: the two tests are those of `within`, the first decided by a
+-- branch. Assumes nothing.
 use borrow.Author.Tests.{le-leb, lt-leb}
 use Rattle.laws.proofs.is_within.Statement.{statement}
 use Rattle.laws.proofs.is_within.Tie as tie

@@ -1,5 +1,5 @@
--- `table::first_pair` meets its contract: no pair before the one looked at is equal, so the first equal one is the answer.
--- Assumes nothing.
+-- `table::first_pair` meets its contract: no pair before the one looked at is equal, so the first
+-- equal one is the answer. Assumes nothing.
 use mathlib.Core.Path.{_≡_, refl, _∙_}
 use Prim.Native.Nat.{ℕ, _-_, _≤_, _<_}
 use native.Mathlib.Omega.{arith}
@@ -110,21 +110,5 @@ returns-2 c =
 pub first-pair-spec : {M : Type 1} → statement M
 first-pair-spec =
     tie.close
-    (tie.spec
-    Inv-loop
-    μ-loop
-    Inv-rows
-    μ-rows
-    rows-holds
-    add-j
-    loop-holds
-    shared-slice-read-if1
-    shared-slice-read-if1-2
-    add-j-2
-    loop-less
-    loop-again
-    add-i
-    rows-less
-    rows-again
-    returns
-    returns-2)
+    (tie.spec Inv-loop μ-loop Inv-rows μ-rows rows-holds add-j loop-holds shared-slice-read-if1
+    shared-slice-read-if1-2 add-j-2 loop-less loop-again add-i rows-less rows-again returns returns-2)

@@ -36,13 +36,5 @@ returns c = cc
 pub server-keeps-spec : {M : Type 1} → statement M
 server-keeps-spec =
     tie.close
-    (tie.spec
-    cast-is-within
-    is-within-requires
-    cast-is-within-2
-    is-within-requires-2
-    cast-is-within-3
-    is-within-requires-3
-    slice-aggregate-all-of
-    all-of-requires
-    returns)
+    (tie.spec cast-is-within is-within-requires cast-is-within-2 is-within-requires-2 cast-is-within-3
+    is-within-requires-3 slice-aggregate-all-of all-of-requires returns)

@@ -6,7 +6,7 @@ use native.Mathlib.Omega.{arith}
 use borrow.Author.Needs.{needs}
 use lib.ListN.{length, getD}
 use Rattle.table.specs.Rows.{noServer}
-use Rattle.table.proofs.Parts.{column-more, column-is}
+use Rattle.table.proofs.Inner.{column-more, column-is}
 use Rattle.table.proofs.server_priorities.Statement.{statement}
 use Rattle.table.proofs.server_priorities.Tie as tie
 
@@ -61,14 +61,5 @@ returns c =
 pub server-priorities-spec : {M : Type 1} → statement M
 server-priorities-spec =
     tie.close
-    (tie.spec
-    Inv-loop
-    μ-loop
-    loop-holds
-    mul-r
-    element-copy-out-r
-    array-write-r
-    add-i
-    loop-less
-    loop-again
+    (tie.spec Inv-loop μ-loop loop-holds mul-r element-copy-out-r array-write-r add-i loop-less loop-again
     returns)

@@ -1,13 +1,13 @@
--- `table::servers_keep` meets its contract: each row passed keeps the rules, so the first that does not decides.
--- Assumes nothing.
+-- `table::servers_keep` meets its contract: each row passed keeps the rules, so the first that does
+-- not decides. Assumes nothing.
 use mathlib.Core.Path.{_≡_, sym, _∙_}
 use mathlib.Core.Bool.{true}
 use Prim.Native.Nat.{_-_, _≤_}
 use native.Mathlib.Omega.{arith}
 use borrow.Author.Needs.{needs}
 use borrow.Author.Tests.{not-true, not-false}
-use Rattle.table.specs.Parts.{serversKeep}
-use Rattle.table.proofs.Parts.{servers-none, servers-more, servers-fail}
+use Rattle.table.specs.Inner.{serversKeep}
+use Rattle.table.proofs.Inner.{servers-none, servers-more, servers-fail}
 use Rattle.table.proofs.servers_keep.Statement.{statement}
 use Rattle.table.proofs.servers_keep.Tie as tie
 
@@ -63,15 +63,5 @@ returns-2 c =
 pub servers-keep-spec : {M : Type 1} → statement M
 servers-keep-spec =
     tie.close
-    (tie.spec
-    Inv-loop
-    μ-loop
-    loop-holds
-    mul-s
-    array-copy-out-s
-    server-keeps-requires
-    returns
-    add-i
-    loop-less
-    loop-again
-    returns-2)
+    (tie.spec Inv-loop μ-loop loop-holds mul-s array-copy-out-s server-keeps-requires returns add-i loop-less
+    loop-again returns-2)

@@ -1,5 +1,5 @@
--- `table::table_keeps` meets its contract: counts that a run does not hold decide, else the list lent is that of the rules.
--- Assumes nothing.
+-- `table::table_keeps` meets its contract: counts that a run does not hold decide, else the list
+-- lent is that of the rules. Assumes nothing.
 use mathlib.Core.Path.{_≡_, ap, sym, _∙_}
 use mathlib.Core.Bool.{true}
 use Prim.Native.Nat.{_≤_}
@@ -9,7 +9,7 @@ use lib.Seq.{length-take-le}
 use borrow.Author.Tests.{not-true, not-false}
 use Rattle.laws.specs.Choice.{within}
 use Rattle.laws.proofs.Choice.{within-high}
-use Rattle.table.proofs.Parts.{servers-count, tasks-count, table-tests}
+use Rattle.table.proofs.Inner.{servers-count, tasks-count, table-tests}
 use borrow.Author.Needs.{needs}
 use Rattle.table.proofs.table_keeps.Statement.{statement}
 use Rattle.table.proofs.table_keeps.Tie as tie
@@ -62,7 +62,7 @@ servers-keep-requires : tie.Need-servers-keep-requires
 servers-keep-requires c κs = few (c .before .before .before)
 
 tasks-keep-requires : tie.Need-tasks-keep-requires
-tasks-keep-requires c κs = (some (c .before .before .before .before), few (c .before .before .before .before))
+tasks-keep-requires c κs = some (c .before .before .before .before)
 
 server-priorities-requires : tie.Need-server-priorities-requires
 server-priorities-requires c κs = search needs
@@ -113,22 +113,7 @@ returns-3 c =
 pub table-keeps-spec : {M : Type 1} → statement M
 table-keeps-spec =
     tie.close
-    (tie.spec
-    is-within-requires
-    returns
-    is-within-requires-2
-    returns-2
-    is-within-requires-3
-    servers-keep-requires
-    tasks-keep-requires
-    server-priorities-requires
-    task-priorities-requires
-    array-share-prefix-sp
-    slice-aggregate-all-differ
-    all-differ-requires
-    array-share-prefix-tp
-    slice-aggregate-all-differ-2
-    all-differ-requires-2
-    slice-aggregate-all-of
-    all-of-requires
-    returns-3)
+    (tie.spec is-within-requires returns is-within-requires-2 returns-2 is-within-requires-3
+    servers-keep-requires tasks-keep-requires server-priorities-requires task-priorities-requires
+    array-share-prefix-sp slice-aggregate-all-differ all-differ-requires array-share-prefix-tp
+    slice-aggregate-all-differ-2 all-differ-requires-2 slice-aggregate-all-of all-of-requires returns-3)

@@ -42,15 +42,5 @@ returns c = cc
 pub task-keeps-spec : {M : Type 1} → statement M
 task-keeps-spec =
     tie.close
-    (tie.spec
-    cast-is-within
-    is-within-requires
-    cast-is-within-2
-    is-within-requires-2
-    cast-is-within-3
-    is-within-requires-3
-    cast-is-within-4
-    is-within-requires-4
-    slice-aggregate-all-of
-    all-of-requires
-    returns)
+    (tie.spec cast-is-within is-within-requires cast-is-within-2 is-within-requires-2 cast-is-within-3
+    is-within-requires-3 cast-is-within-4 is-within-requires-4 slice-aggregate-all-of all-of-requires returns)

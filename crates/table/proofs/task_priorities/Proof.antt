@@ -6,7 +6,7 @@ use native.Mathlib.Omega.{arith}
 use borrow.Author.Needs.{needs}
 use lib.ListN.{length, getD}
 use Rattle.table.specs.Rows.{noTask}
-use Rattle.table.proofs.Parts.{column-more, column-is}
+use Rattle.table.proofs.Inner.{column-more, column-is}
 use Rattle.table.proofs.task_priorities.Statement.{statement}
 use Rattle.table.proofs.task_priorities.Tie as tie
 
@@ -61,14 +61,5 @@ returns c =
 pub task-priorities-spec : {M : Type 1} → statement M
 task-priorities-spec =
     tie.close
-    (tie.spec
-    Inv-loop
-    μ-loop
-    loop-holds
-    mul-r
-    element-copy-out-r
-    array-write-r
-    add-i
-    loop-less
-    loop-again
+    (tie.spec Inv-loop μ-loop loop-holds mul-r element-copy-out-r array-write-r add-i loop-less loop-again
     returns)

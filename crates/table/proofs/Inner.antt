@@ -1,26 +1,25 @@
--- The rules row by row, as loops over the rows decide them, and joined to the rules of a whole table.
--- A row below a count is the same row of the list and of its part in use. Assumes nothing.
+-- The rules row by row, as loops over the rows decide them, and joined to the rules of a whole
+-- table. A row below a count is the same row of the list and of its part in use. Assumes nothing.
 use mathlib.Core.Path.{_≡_, refl, sym, ap, _∙_}
 use mathlib.Core.Bool.{Bool, true, false, not, _&&_}
 use mathlib.Core.List.{List, [], _∷_, map}
 use Prim.Native.Nat.{ℕ, _+_, _≤_, _<_}
 use native.Mathlib.Omega.{arith}
-use lib.Dec.{ltb, eqb}
+use lib.Dec.{eqb}
 use lib.ListN.{length, getD, set, take, length-map, List·getD-map}
 use lib.Seq.{length-take-le, getD-take, getD-set-same, getD-set-other, ext-getD}
-use borrow.Author.Tests.{lt-ltb, le-ltb}
 use borrow.Author.Count.{below-more}
 use Rattle.laws.specs.Choice.{every, within}
 use Rattle.laws.specs.Rows.{allBelow}
-use Rattle.laws.proofs.Choice.{and-true, every-not, within-high}
+use Rattle.laws.proofs.Choice.{within-high}
 use Rattle.laws.proofs.Rows.{all-none, all-more, all-at, all-fails, all-cong}
 use Rattle.table.specs.declared.Server.{Server}
 use Rattle.table.specs.declared.Task.{Task}
 use Rattle.table.specs.declared.Table.{Table}
 use Rattle.table.specs.Rows.{noServer, noTask, rowsOf}
-use Rattle.table.specs.Rules.{serverKeeps, taskKeeps, taskFits, differ, tickKeeps, keeps, tableKeeps}
+use Rattle.table.specs.Rules.{serverKeeps, taskStands, differ, tickKeeps, keeps, tableKeeps}
 use Rattle.table.proofs.Pairs.{differ-rows}
-use Rattle.table.specs.Parts.{rowsFit, serversKeep, tasksKeep, serverPriorities, taskPriorities}
+use Rattle.table.specs.Inner.{serversKeep, tasksKeep, serverPriorities, taskPriorities}
 
 -- servers: no row yet, one row more, one row that fails
 pub servers-none : (ss : List Server) → serversKeep ss 0 ≡ true
@@ -36,76 +35,19 @@ unfolding serversKeep
 servers-fail ss n i h e = sym (all-fails (λ k. every (serverKeeps (getD ss k noServer))) n i h e)
 
 -- tasks, in the same way
-abbrev pub taskRow : List Task → List Server → ℕ → ℕ → Bool
-taskRow ks ss n k = every (taskKeeps (getD ks k noTask)) && every (taskFits (take n ss) (getD ks k noTask))
-
 pub tasks-none : (ks : List Task) (ss : List Server) (n : ℕ) → tasksKeep ks 0 ss n ≡ true
 unfolding tasksKeep
-tasks-none ks ss n = sym (all-none (taskRow ks ss n))
+tasks-none ks ss n = sym (all-none (λ k. taskStands (take n ss) (getD ks k noTask)))
 
-tasks-next : (ks : List Task) (ss : List Server) (n i : ℕ) → tasksKeep ks i ss n ≡ true → taskRow ks ss n i ≡ true → tasksKeep ks (i + 1) ss n ≡ true
+pub tasks-more : (ks : List Task) (ss : List Server) (n i : ℕ) → tasksKeep ks i ss n ≡ true → taskStands (take n ss) (getD ks i noTask) ≡ true →
+    tasksKeep ks (i + 1) ss n ≡ true
 unfolding tasksKeep
-tasks-next ks ss n i e f = all-more (taskRow ks ss n) i e f
+tasks-more ks ss n i e f = all-more (λ k. taskStands (take n ss) (getD ks k noTask)) i e f
 
-tasks-not : (ks : List Task) (m : ℕ) (ss : List Server) (n i : ℕ) → i < m → taskRow ks ss n i ≡ false → false ≡ tasksKeep ks m ss n
+pub tasks-fail : (ks : List Task) (m : ℕ) (ss : List Server) (n i : ℕ) → i < m → taskStands (take n ss) (getD ks i noTask) ≡ false →
+    false ≡ tasksKeep ks m ss n
 unfolding tasksKeep
-tasks-not ks m ss n i h e = sym (all-fails (taskRow ks ss n) m i h e)
-
-and-not : (a b : Bool) → b ≡ false → (a && b) ≡ false
-and-not true b e = e
-and-not false b e = refl
-
--- the row's own numbers are out of bounds
-pub tasks-numbers : (ks : List Task) (m : ℕ) (ss : List Server) (n i : ℕ) → i < m → every (taskKeeps (getD ks i noTask)) ≡ false → false ≡ tasksKeep ks m ss n
-tasks-numbers ks m ss n i h e = tasks-not ks m ss n i h (rw e)
-
--- its home or its degraded server is not there
-home-absent : (ss : List Server) (k : Task) → length ss ≤ k .home → every (taskFits ss k) ≡ false
-unfolding taskFits
-home-absent ss k h =
-    every-not (taskFits ss k) 0 (rw (le-ltb (k .home) (length ss) h))
-
-degraded-absent : (ss : List Server) (k : Task) → length ss ≤ k .degraded → every (taskFits ss k) ≡ false
-unfolding taskFits
-degraded-absent ss k h =
-    every-not (taskFits ss k) 0 (and-not (ltb (k .home) (length ss)) (ltb (k .degraded) (length ss)) (le-ltb (k .degraded) (length ss) h))
-
-pub tasks-home : (ks : List Task) (m : ℕ) (ss : List Server) (n i : ℕ) → i < m → n ≤ length ss → n ≤ getD ks i noTask .home → false ≡ tasksKeep ks m ss n
-tasks-home ks m ss n i h l g =
-    tasks-not ks m ss n i h
-    (and-not
-    (every (taskKeeps (getD ks i noTask)))
-    (every (taskFits (take n ss) (getD ks i noTask)))
-    (home-absent (take n ss) (getD ks i noTask) (omega (arith, length-take-le n ss l))))
-
-pub tasks-degraded : (ks : List Task) (m : ℕ) (ss : List Server) (n i : ℕ) → i < m → n ≤ length ss → n ≤ getD ks i noTask .degraded → false ≡ tasksKeep ks m ss n
-tasks-degraded ks m ss n i h l g =
-    tasks-not ks m ss n i h
-    (and-not
-    (every (taskKeeps (getD ks i noTask)))
-    (every (taskFits (take n ss) (getD ks i noTask)))
-    (degraded-absent (take n ss) (getD ks i noTask) (omega (arith, length-take-le n ss l))))
-
--- both are there: what the task asks of the two rows decides
-pub fits-rows : (ss : List Server) (n : ℕ) (k : Task) → n ≤ length ss → k .home < n → k .degraded < n →
-    every (taskFits (take n ss) k) ≡ every (rowsFit k (getD ss (k .home) noServer) (getD ss (k .degraded) noServer))
-unfolding taskFits rowsFit every
-fits-rows ss n k l h d =
-    rw (length-take-le n ss l, getD-take n ss (k .home) noServer h, getD-take n ss (k .degraded) noServer d, lt-ltb (k .home) n h, lt-ltb (k .degraded) n d)
-
-pub tasks-rows : (ks : List Task) (m : ℕ) (ss : List Server) (n i : ℕ) (k : Task) → k ≡ getD ks i noTask → i < m → n ≤ length ss → k .home < n → k .degraded < n →
-    every (rowsFit k (getD ss (k .home) noServer) (getD ss (k .degraded) noServer)) ≡ false → false ≡ tasksKeep ks m ss n
-tasks-rows ks m ss n i k q h l a b e =
-    tasks-not ks m ss n i h
-    (rw (← q)
-    (and-not (every (taskKeeps k)) (every (taskFits (take n ss) k)) (fits-rows ss n k l a b ∙ e)))
-
-pub tasks-more : (ks : List Task) (ss : List Server) (n i : ℕ) (k : Task) → k ≡ getD ks i noTask → n ≤ length ss → k .home < n → k .degraded < n →
-    tasksKeep ks i ss n ≡ true → every (taskKeeps k) ≡ true →
-    every (rowsFit k (getD ss (k .home) noServer) (getD ss (k .degraded) noServer)) ≡ true → tasksKeep ks (i + 1) ss n ≡ true
-tasks-more ks ss n i k q l a b e f g =
-    tasks-next ks ss n i e
-    (rw (← q) (and-true (every (taskKeeps k)) (every (taskFits (take n ss) k)) f (fits-rows ss n k l a b ∙ g)))
+tasks-fail ks m ss n i h e = sym (all-fails (λ k. taskStands (take n ss) (getD ks k noTask)) m i h e)
 
 -- a column of the rows: one row more, and all of them
 pub column-more : (f : ℕ → ℕ) (r : List ℕ) (i : ℕ) → i < length r → ((k : ℕ) → k < i → getD r k 0 ≡ f k) → (k : ℕ) → k < i + 1 → getD (set r i (f i)) k 0 ≡ f k
@@ -133,15 +75,15 @@ servers-in-use ss n l =
     (λ i h. ap (λ s. every (serverKeeps s)) (sym (getD-take n ss i noServer h))))
 
 pub tasks-in-use : (ks : List Task) (m : ℕ) (ss : List Server) (n : ℕ) → m ≤ length ks →
-    tasksKeep ks m ss n ≡ allBelow (length (take m ks)) (taskRow (take m ks) ss n)
+    tasksKeep ks m ss n ≡ allBelow (length (take m ks)) (λ k. taskStands (take n ss) (getD (take m ks) k noTask))
 unfolding tasksKeep
 tasks-in-use ks m ss n l =
     rw (length-take-le m ks l)
     (all-cong
-    (taskRow ks ss n)
-    (taskRow (take m ks) ss n)
+    (λ k. taskStands (take n ss) (getD ks k noTask))
+    (λ k. taskStands (take n ss) (getD (take m ks) k noTask))
     m
-    (λ i h. ap (λ k. every (taskKeeps k) && every (taskFits (take n ss) k)) (sym (getD-take m ks i noTask h))))
+    (λ i h. ap (taskStands (take n ss)) (sym (getD-take m ks i noTask h))))
 
 differ-cong : (n : ℕ) (p q : ℕ → ℕ) → ((i : ℕ) → i < n → p i ≡ q i) → differ n p ≡ differ n q
 unfolding differ
@@ -178,7 +120,11 @@ servers-count t e = rw e
 pub tasks-count : (t : Table) → within 1 64 (t .ntasks) ≡ false → false ≡ tableKeeps t
 unfolding tableKeeps
 tasks-count t e =
-    sym (and-not (within 1 32 (t .nservers)) (within 1 64 (t .ntasks) && keeps (rowsOf t)) (rw e))
+    go (within 1 32 (t .nservers))
+  where
+    go : (b : Bool) → false ≡ (b && (within 1 64 (t .ntasks) && keeps (rowsOf t)))
+    go true = rw e
+    go false = refl
 
 -- counts that it holds: the tests that the code lends decide
 pub table-tests : (t : Table) (sp tp : List ℕ) → length (t .servers) ≡ 32 → length (t .tasks) ≡ 64 →
@@ -218,9 +164,10 @@ pub servers-at : (ss : List Server) (n i : ℕ) → serversKeep ss n ≡ true �
 unfolding serversKeep
 servers-at ss n i e h = all-at (λ k. every (serverKeeps (getD ss k noServer))) n i e h
 
-pub tasks-at : (ks : List Task) (m : ℕ) (ss : List Server) (n i : ℕ) → tasksKeep ks m ss n ≡ true → i < m → taskRow ks ss n i ≡ true
+pub tasks-at : (ks : List Task) (m : ℕ) (ss : List Server) (n i : ℕ) → tasksKeep ks m ss n ≡ true → i < m →
+    taskStands (take n ss) (getD ks i noTask) ≡ true
 unfolding tasksKeep
-tasks-at ks m ss n i e h = all-at (taskRow ks ss n) m i e h
+tasks-at ks m ss n i e h = all-at (λ k. taskStands (take n ss) (getD ks k noTask)) m i e h
 
 pub column-apart : {A : Type 0} (f : A → ℕ) (d : A) (xs : List A) (n : ℕ) → n ≤ length xs →
     differ (length (take n xs)) (λ i. f (getD (take n xs) i d)) ≡ true → (i j : ℕ) → i < n → j < n → (i ≡ j → ⊥) →
