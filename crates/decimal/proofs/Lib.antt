@@ -1,5 +1,3 @@
-pub mod Cut
-pub mod Walk
-pub mod Digits
-pub mod Parts
+pub mod Numbers
+pub mod Lines
 pub mod Room

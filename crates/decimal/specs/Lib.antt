@@ -1,3 +1,3 @@
 pub mod Number
-pub mod Parts
+pub mod Lines
 pub mod Room

@@ -6,8 +6,9 @@ use Prim.Native.Nat.{ℕ, _+_, min, max}
 use lib.ListN.{length}
 use lib.Seq.{sets}
 
--- Byte by byte from place `at` on; a byte for which there is no room is left out. The next byte goes after the text, or
--- at the end of the room.
+-- Byte by byte from place `at` on; a byte for which there is no room is left out. The next byte goes after the text. Where
+-- something was left out, that place is past the end of the room, by which a caller knows it: it is one past the end, or `at`
+-- itself where that was past the end already.
 pub record Put (text room : List ℕ) (at : ℕ) (left : List ℕ) (next : ℕ) : Type 0 where
   pub leaves : left ≡ sets room at text
-  pub ends : next ≡ max at (min (at + length text) (length room))
+  pub ends : next ≡ max at (min (at + length text) (length room + 1))

@@ -1,5 +1,5 @@
-// Decimal numbers and fields in text. (01, Tables.) Which bytes are a number, and which number, is in specs/Number.antt;
-// how text is cut into lines and lines into fields is in specs/Parts.antt.
+// Decimal numbers and fields in text. (01, Tables.) Which bytes are a number, and which number, is
+// in specs/Number.antt; how text is cut into lines and lines into fields is in specs/Lines.antt.
 
 pub mod put;
 
@@ -9,7 +9,7 @@ ghost use mathlib.Core.List.{[]};
 ghost use Prim.Native.Nat.{_-_, _≤_};
 ghost use lib.ListN.{length, getD};
 ghost use Rattle.decimal.specs.Number.{areDigits, leadsWell, isNumber, worth, readNumber};
-ghost use Rattle.decimal.specs.Parts.{tab, split, same};
+ghost use Rattle.decimal.specs.Lines.{tab, split, same};
 
 pub const TAB: u8 = 9;
 
@@ -48,7 +48,7 @@ fn leads_well(s: &[u8]) -> bool
     s.len() == 1
 }
 
-pub fn is_number(s: &[u8]) -> bool
+fn is_number(s: &[u8]) -> bool
     ensures { λ r. ⌜ r ≡ isNumber (now (s .entry)) ⌝ }
 {
     let few = laws::is_within(1, 11, s.len() as u64);
@@ -103,7 +103,7 @@ pub fn is_same(a: &[u8], b: &[u8]) -> bool
 }
 
 // Fields count from 0. One that is missing is empty, as is what stands past the end of the line.
-pub fn field<'a>(line: &'a [u8], k: usize) -> &'a [u8]
+fn field<'a>(line: &'a [u8], k: usize) -> &'a [u8]
     ensures { λ r. ⌜ now r ≡ getD (split tab (now (line .entry))) k [] ⌝ }
 {
     let mut at = 0;
@@ -141,13 +141,6 @@ pub fn word_in(line: &[u8], k: usize, w: &[u8]) -> bool
     ensures { λ r. ⌜ r ≡ same (getD (split tab (now (line .entry))) k []) (now (w .entry)) ⌝ }
 {
     is_same(field(line, k), w)
-}
-
-// Whether field k is a number.
-pub fn has_number(line: &[u8], k: usize) -> bool
-    ensures { λ r. ⌜ r ≡ isNumber (getD (split tab (now (line .entry))) k []) ⌝ }
-{
-    is_number(field(line, k))
 }
 
 pub fn number_in(line: &[u8], k: usize) -> Number

@@ -1,18 +1,25 @@
 // Bytes put into a lent room from a place on. A byte for which there is no room is left out, and nothing else of the
-// room changes. Each answers where the next byte goes: after its text, or at the end of the room. (specs/Room.antt.)
+// room changes. Each answers where the next byte goes: a place past the end of the room says that something was left out.
+// (specs/Room.antt.)
 
 ghost use mathlib.Core.List.{[], _∷_};
 ghost use Rattle.decimal.specs.Number.{digits};
 ghost use Rattle.decimal.specs.Room.{Put};
 
+// No number of 64 bits has more digits.
+const MOST_DIGITS: usize = 20;
+
 pub fn put_byte(b: u8, room: &mut [u8], at: usize) -> usize
     ensures { λ r. ⌜ Put (b ∷ []) (now (room .entry)) at (now (room .exit)) r ⌝ }
 {
-    if room.len() <= at {
-        return at;
+    if at < room.len() {
+        room[at] = b;
+        return at + 1;
     }
-    room[at] = b;
-    at + 1
+    if at == room.len() {
+        return at + 1;
+    }
+    at
 }
 
 pub fn put_all(text: &[u8], room: &mut [u8], at: usize) -> usize
@@ -25,13 +32,19 @@ pub fn put_all(text: &[u8], room: &mut [u8], at: usize) -> usize
     k
 }
 
-// "Numbers are decimal": the last digit stands after those of the tenth part.
+// "Numbers are decimal": the last digit stands after those of the tenth part, so they are found from the last one on.
 pub fn put_number(n: u64, room: &mut [u8], at: usize) -> usize
     ensures { λ r. ⌜ Put (digits n) (now (room .entry)) at (now (room .exit)) r ⌝ }
 {
-    if n < 10 {
-        return put_byte(b'0' + n as u8, room, at);
+    let mut text = [0u8; MOST_DIGITS];
+    let mut first = MOST_DIGITS;
+    let mut left = n;
+    while 10 <= left {
+        first -= 1;
+        text[first] = b'0' + (left % 10) as u8;
+        left /= 10;
     }
-    let k = put_number(n / 10, room, at);
-    put_byte(b'0' + (n % 10) as u8, room, k)
+    first -= 1;
+    text[first] = b'0' + left as u8;
+    put_all(&text[first..], room, at)
 }

@@ -1,5 +1,5 @@
-pub mod Said
-pub mod RoundedUp
-pub mod Judging
-pub mod Growing
-pub mod Whole
+pub mod RoundUp
+pub mod Standing
+pub mod Inner
+pub mod Line
+pub mod Read

@@ -1,26 +1,28 @@
-// The reader of table text. (01, Tables and Numbers for no.) Which answer is right is in crate text, specs/Read.antt.
+// The reader of table text. (01, Tables and Numbers for no.) Which answer is right is in crate
+// text, specs/Read.antt.
 
+mod fields;
+mod forms;
 mod rows;
 mod rules;
-mod words;
 
 use table::Pair;
 use table::Refusal;
+use table::Standing;
 use table::Table;
-use text::Judged;
-use text::LONGEST;
+use text::LONGEST_TEXT;
 use text::Read;
 use text::Reading;
 ghost use mathlib.Core.Path.{_≡_};
 ghost use Prim.Native.Nat.{_+_, _≤_};
 ghost use Rattle.table.specs.Rows.{rowsOf, tableOf};
 ghost use Rattle.text.specs.Read.{refused, equal, taken, pairSaid, equalTasks, compared, ended, read, shown};
-ghost use Rattle.reader.specs.Inner.{Ready};
+ghost use Rattle.reader.specs.Inner.{Above};
 
 fn refuse(why: Refusal, line: usize) -> Read
     ensures { λ r. ⌜ r ≡ shown (refused why line) ⌝ }
 {
-    let none = rows::no_table();
+    let none = table::no_table();
     Read {
         answer: Reading::Refused { why, line },
         table: none,
@@ -30,7 +32,7 @@ fn refuse(why: Refusal, line: usize) -> Read
 fn refuse_pair(first: usize, second: usize) -> Read
     ensures { λ r. ⌜ r ≡ shown (equal first second) ⌝ }
 {
-    let none = rows::no_table();
+    let none = table::no_table();
     Read {
         answer: Reading::Equal { first, second },
         table: none,
@@ -73,7 +75,7 @@ fn compare(t: Table) -> Read
 
 // The text ends before line n, t holding its rows.
 fn end(n: usize, t: Table) -> Read
-    requires { ⌜ Ready n t ⌝ }
+    requires { ⌜ Above n t ⌝ }
     ensures { λ r. ⌜ r ≡ shown (ended n (rowsOf t)) ⌝ }
 {
     if t.ntasks == 0 {
@@ -82,15 +84,15 @@ fn end(n: usize, t: Table) -> Read
     compare(t)
 }
 
-// What a text says: its table, or why it is none. "a line begins anywhere in the lent text and is read there": line n
-// begins at `at`, and its part of the text is lent from the middle.
+// What a text says: its table, or why it is none. "a line begins anywhere in the lent text and is
+// read there": line n begins at `at`, and its part of the text is lent from the middle.
 pub fn read_table(text: &[u8]) -> Read
     ensures { λ r. ⌜ r ≡ shown (read (now (text .entry))) ⌝ }
 {
-    if LONGEST < text.len() {
+    if LONGEST_TEXT < text.len() {
         return refuse(Refusal::OutOfBounds, 0);
     }
-    let mut t = rows::no_table();
+    let mut t = table::no_table();
     let mut at = 0;
     let mut n = 1;
     loop {
@@ -101,9 +103,9 @@ pub fn read_table(text: &[u8]) -> Read
             }
             return end(n, t);
         }
-        let l = words::read_line(&text[at..e]);
-        let j = rules::judge_line(n, t, l);
-        if let Judged::Broken(why) = j {
+        let l = forms::read_line(&text[at..e]);
+        let j = rules::line_standing(n, t, l);
+        if let Standing::Broken(why) = j {
             return refuse(why, n);
         }
         t = rows::grow(t, l);

@@ -1,117 +1,92 @@
-// A line's row, put into the table: the one place where microseconds become ticks. Each function asks that the line keeps
-// the rules, so that every number fits its row.
+// A line's row, put into the table: the one place where microseconds become ticks. Each function
+// asks that the line keeps the rules, so that every number fits its row.
 
 use table::ByMode;
-use table::Kind;
-use table::Level;
-use table::SERVERS;
 use table::Server;
-use table::TASKS;
 use table::Table;
 use table::Task;
 use text::Line;
 use text::ServerLine;
 use text::TaskLine;
+use text::Times;
 use units::Micros;
 use units::Ticks;
 ghost use mathlib.Core.Path.{_≡_};
 ghost use mathlib.Core.Bool.{true};
-ghost use Prim.Native.Nat.{_<_};
+ghost use Prim.Native.Nat.{_*_, _≤_, _<_};
 ghost use Rattle.laws.specs.Choice.{every};
 ghost use Rattle.laws.specs.RoundUp.{up};
 ghost use Rattle.table.specs.Rows.{rowsOf, tableOf};
 ghost use Rattle.table.specs.Rules.{taskKeeps};
 ghost use Rattle.text.specs.declared.Line.the-variants.{OfServer, OfTask};
-ghost use Rattle.text.specs.Judge.{serverOf, taskOf, serverBounds, grown};
-ghost use Rattle.text.specs.Read.{noTable};
-ghost use Rattle.reader.specs.Inner.{Grows};
+ghost use Rattle.text.specs.Standing.{inTicks, serverOf, roundedUp, limitsOf, taskOf, serverBounds, grown};
+ghost use Rattle.reader.specs.Inner.{FewTicks, Grows};
 
-// "each rounded up to a tick": nothing here can pass 64 bits, whatever u is.
-pub(crate) fn round_up(u: u64, tick: u64) -> u64
-    requires { ⌜ 0 < tick ⌝ }
-    ensures { λ r. ⌜ r ≡ up u tick ⌝ }
+// "each rounded up to a tick". A time may be of more ticks than 32 bits hold: its bound is judged
+// before, in microseconds (rules::task_bounds), and only what is at most 100,000 ticks is rounded
+// up.
+fn round_up(u: Micros, tick: Micros) -> Ticks
+    requires { ⌜ (0 < tick .0) × (up (u .0) (tick .0) ≤ 100000) ⌝ }
+    ensures { λ r. ⌜ r ≡ roundedUp (tick .0) u ⌝ }
 {
-    if u % tick == 0 {
-        return u / tick;
+    let n = u.0 / tick.0;
+    if u.0 % tick.0 == 0 {
+        return Ticks(n as u32);
     }
-    u / tick + 1
+    Ticks(n as u32 + 1)
 }
 
-// The table that stands beside a refusal, and that reading begins with: no tick and no rows.
-pub(crate) fn no_table() -> Table
-    ensures { λ r. ⌜ r ≡ noTable ⌝ }
+// "all whole ticks": of a period, or of a capacity, which is at most the period.
+fn in_ticks(u: Micros, tick: Micros) -> Ticks
+    requires { ⌜ (0 < tick .0) × (u .0 ≤ 1000000 * tick .0) ⌝ }
+    ensures { λ r. ⌜ r ≡ inTicks (tick .0) u ⌝ }
 {
-    let none = ByMode {
-        n: Ticks(0),
-        d1: Ticks(0),
-        d2: Ticks(0),
-    };
-    let s = Server {
-        partition: 0,
-        kind: Kind::Event,
-        priority: 0,
-        period: Ticks(0),
-        capacity: none,
-    };
-    let k = Task {
-        home: 0,
-        degraded: 0,
-        priority: 0,
-        level: Level::LO,
-        limit: none,
-    };
-    Table {
-        tick: Micros(0),
-        nservers: 0,
-        ntasks: 0,
-        servers: [s; SERVERS],
-        tasks: [k; TASKS],
-    }
+    let n = u.0 / tick.0;
+    Ticks(n as u32)
 }
 
-pub(crate) fn task_row(tick: u64, k: TaskLine) -> Task
-    requires { ⌜ (0 < tick) × (every (taskKeeps (taskOf tick k)) ≡ true) × (k .home < 32) × (k .degraded < 32) ⌝ }
-    ensures { λ r. ⌜ r ≡ taskOf tick k ⌝ }
+pub(crate) fn limits(x: Times, tick: Micros) -> ByMode
+    requires { ⌜ (0 < tick .0) × FewTicks (tick .0) x ⌝ }
+    ensures { λ r. ⌜ r ≡ limitsOf (tick .0) x ⌝ }
 {
-    let limit = k.limit;
+    let n = round_up(x.n, tick);
+    let d1 = round_up(x.d1, tick);
+    let d2 = round_up(x.d2, tick);
+    ByMode { n, d1, d2 }
+}
+
+fn task_row(tick: Micros, k: TaskLine) -> Task
+    requires { ⌜ (0 < tick .0) × (every (taskKeeps (taskOf (tick .0) k)) ≡ true) × (k .home < 32) × (k .degraded < 32) ⌝ }
+    ensures { λ r. ⌜ r ≡ taskOf (tick .0) k ⌝ }
+{
     let level = k.level;
-    let n = round_up(limit.n.0, tick);
-    let d1 = round_up(limit.d1.0, tick);
-    let d2 = round_up(limit.d2.0, tick);
-    let ticks = ByMode {
-        n: Ticks(n as u32),
-        d1: Ticks(d1 as u32),
-        d2: Ticks(d2 as u32),
-    };
+    let x = k.limit;
+    let limit = limits(x, tick);
     Task {
         home: k.home as u8,
         degraded: k.degraded as u8,
         priority: k.priority as u8,
         level,
-        limit: ticks,
+        limit,
     }
 }
 
-fn server_row(rows: usize, tick: u64, s: ServerLine) -> Server
-    requires { ⌜ (0 < tick) × (every (serverBounds rows tick s) ≡ true) ⌝ }
-    ensures { λ r. ⌜ r ≡ serverOf tick s ⌝ }
+fn server_row(rows: usize, tick: Micros, s: ServerLine) -> Server
+    requires { ⌜ (0 < tick .0) × (every (serverBounds rows (tick .0) s) ≡ true) ⌝ }
+    ensures { λ r. ⌜ r ≡ serverOf (tick .0) s ⌝ }
 {
     let kind = s.kind;
     let c = s.capacity;
-    let n = c.n.0 / tick;
-    let d1 = c.d1.0 / tick;
-    let d2 = c.d2.0 / tick;
-    let period = s.period.0 / tick;
-    let capacity = ByMode {
-        n: Ticks(n as u32),
-        d1: Ticks(d1 as u32),
-        d2: Ticks(d2 as u32),
-    };
+    let n = in_ticks(c.n, tick);
+    let d1 = in_ticks(c.d1, tick);
+    let d2 = in_ticks(c.d2, tick);
+    let period = in_ticks(s.period, tick);
+    let capacity = ByMode { n, d1, d2 };
     Server {
         partition: s.partition as u8,
         kind,
         priority: s.priority as u8,
-        period: Ticks(period as u32),
+        period,
         capacity,
     }
 }
@@ -121,7 +96,7 @@ fn with_server(t: Table, s: ServerLine) -> Table
     ensures { λ r. ⌜ r ≡ tableOf (grown (rowsOf t) (OfServer s)) ⌝ }
 {
     let i = t.nservers;
-    let tick = t.tick.0;
+    let tick = t.tick;
     let row = server_row(i, tick, s);
     let mut o = t;
     o.servers[i] = row;
@@ -134,7 +109,7 @@ fn with_task(t: Table, k: TaskLine) -> Table
     ensures { λ r. ⌜ r ≡ tableOf (grown (rowsOf t) (OfTask k)) ⌝ }
 {
     let i = t.ntasks;
-    let tick = t.tick.0;
+    let tick = t.tick;
     let row = task_row(tick, k);
     let mut o = t;
     o.tasks[i] = row;

@@ -1,8 +1,8 @@
--- 2, "a number or row count out of bounds", as inequalities. "These bounds are compared in microseconds", and a limit that
--- is rounded up to a tick is from 1 to 100,000 ticks exactly if it is from 1 microsecond to 100,000 ticks. Assumes
--- nothing.
-use mathlib.Core.Path.{_≡_, refl}
-use mathlib.Core.Bool.{Bool, true}
+-- 2, "a number or row count out of bounds", as inequalities. "These bounds are compared in
+-- microseconds", and a limit that is rounded up to a tick is from 1 to 100,000 ticks exactly if it
+-- is from 1 microsecond to 100,000 ticks. Assumes nothing.
+use mathlib.Core.Path.{_≡_, refl, sym, _∙_}
+use mathlib.Core.Bool.{Bool, true, false}
 use mathlib.Core.List.{List, [], _∷_}
 use mathlib.Core.Logic.{_↔_}
 use Prim.Native.Nat.{ℕ, _*_, _≤_, _<_}
@@ -19,7 +19,7 @@ use Rattle.table.specs.Rules.{taskKeeps}
 use Rattle.text.specs.declared.ServerLine.{ServerLine}
 use Rattle.text.specs.declared.TaskLine.{TaskLine}
 use Rattle.text.specs.declared.Line.the-variants.{OfTick}
-use Rattle.text.specs.Judge.{serverBounds, taskBounds, bounds}
+use Rattle.text.specs.Standing.{serverBounds, taskBounds, bounds}
 
 -- every test of a list holds if each does
 infixr 5 _also_
@@ -101,6 +101,19 @@ limit-high t u h w = omega (arith, le-up u t h, mul-le-mul-right {m = up u t} {n
 
 limit-within : (t u : ℕ) → 0 < t → 1 ≤ u → u ≤ 100000 * t → within 1 100000 (up u t) ≡ true
 limit-within t u h l g = is-within 1 100000 (up u t) (lt-up u t 0 h (omega arith)) (up-le u t 100000 h g)
+
+-- so the bound is judged in microseconds, whatever the number
+pub limit-exactly : (t u : ℕ) → 0 < t → within 1 (100000 * t) u ≡ within 1 100000 (up u t)
+limit-exactly t u h = go (within 1 (100000 * t) u) (within 1 100000 (up u t)) refl refl
+  where
+    go : (a b : Bool) → within 1 (100000 * t) u ≡ a → within 1 100000 (up u t) ≡ b → a ≡ b
+    go true b p q =
+        sym (limit-within t u h (within-low 1 (100000 * t) u p) (within-high 1 (100000 * t) u p)) ∙ q
+    go false true p q =
+        let l = limit-low t u h (within-low 1 100000 (up u t) q) in
+        let g = limit-high t u h (within-high 1 100000 (up u t) q) in
+        sym p ∙ is-within 1 (100000 * t) u l g
+    go false false p q = refl
 
 -- a task's line below `rows` others
 pub record TaskWithin (rows t : ℕ) (k : TaskLine) : Type 0 where

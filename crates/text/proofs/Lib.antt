@@ -2,7 +2,6 @@ pub mod Lines
 pub mod Ticks
 pub mod Bounds
 pub mod Refused
-pub mod Kept
-pub mod AllLines
+pub mod Standing
 pub mod Allowed
 pub mod RoundTrip

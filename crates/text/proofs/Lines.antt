@@ -1,19 +1,20 @@
--- A line and its text are inverse: what a written line says is what was written, and a line that has a form is written
--- as it stands. Nothing here knows a bound or a row. Assumes nothing.
-use mathlib.Core.Path.{_≡_, refl, sym, ap}
+-- A line and its text are inverse: what a written line says is what was written, and a line that
+-- has a form is written as it stands. Nothing here knows a bound or a row. Assumes nothing.
+use mathlib.Core.Path.{_≡_, refl, sym, ap, ap₂}
 use mathlib.Core.Bool.{Bool, true, false, _||_}
 use mathlib.Core.List.{List, [], _∷_}
 use mathlib.Core.Logic.{_⊎_, inl, inr}
-use Prim.Native.Nat.{ℕ, zero, suc, _≤_, _<_}
+use Prim.Native.Nat.{ℕ, suc, _≤_, _<_}
 use native.Mathlib.Omega.{arith}
 use lib.ListN.{length, getD}
-use borrow.Author.Tests.{eqb-true}
-use Rattle.laws.specs.Choice.{if_then_else_, every}
-use Rattle.laws.proofs.Choice.{clash, if-ind, or-cases, every-at}
+use lib.Dec.{leb}
+use borrow.Author.Tests.{leb-true}
+use Rattle.laws.specs.Choice.{if_then_else_}
+use Rattle.laws.proofs.Choice.{clash, and-left, and-right, if-ind, or-cases}
 use Rattle.decimal.specs.Number.{worth, digits}
-use Rattle.decimal.specs.Parts.{tab, lineFeed, split, same}
-use Rattle.decimal.proofs.Digits.{worth-digits, number-digits, digits-worth, digits-length}
-use Rattle.decimal.proofs.Parts.{allHigh, high, lacks, high-digits, all-high-lack, join-lacks, split-joined, join-split, same-eq, AllUpTo, join-length}
+use Rattle.decimal.specs.Lines.{tab, lineFeed, split, same}
+use Rattle.decimal.proofs.Numbers.{worth-digits, number-digits, digits-worth, digits-length}
+use Rattle.decimal.proofs.Lines.{allHigh, high, lacks, high-digits, all-high-lack, join-lacks, split-joined, join-split, same-eq, AllUpTo, join-length}
 use Rattle.table.specs.declared.Kind.{Kind}
 use Rattle.table.specs.declared.Kind.the-variants.{Event, Timed}
 use Rattle.table.specs.declared.Level.{Level}
@@ -22,7 +23,7 @@ use Rattle.text.specs.declared.Times.{Times}
 use Rattle.text.specs.declared.Line.{Line}
 use Rattle.text.specs.declared.Line.the-variants.{OfTick, OfServer, OfTask, Malformed}
 use Rattle.text.specs.Words.{tickWord, serverWord, taskWord, eventWord, timedWord, loWord, miWord, hiWord, isKind, kindOf, kindWord, isLevel, levelOf, levelWord}
-use Rattle.text.specs.Line.{fieldAt, tickForm, serverForm, taskForm, microsAt, serverSaid, taskSaid, lineOf, readLine, timesFields, fieldsOf, writeLine}
+use Rattle.text.specs.Line.{Expected, aNumber, aKind, aLevel, fits, Form, tickForm, serverForm, taskForm, allFit, has, microsAt, serverSaid, taskSaid, lineOf, readLine, timesFields, fieldsOf, writeLine}
 
 -- A line that has a text: it has a form, and each number has at most 11 digits.
 abbrev pub Short : ℕ → Type 0
@@ -119,7 +120,7 @@ level-high HI = refl
 
 -- what the fields of a line say
 line-of-fields : (l : Line) → Writable l → lineOf (fieldsOf l) ≡ l
-unfolding lineOf fieldsOf tickForm serverForm taskForm every same tickWord serverWord taskWord
+unfolding lineOf fieldsOf tickForm serverForm taskForm has allFit same tickWord serverWord taskWord
 line-of-fields (OfTick t) w = rw (number-digits (t .0) w, worth-digits (t .0))
 line-of-fields (OfServer s) w =
     rw (
@@ -157,7 +158,8 @@ line-of-fields (OfTask k) w =
     )
 line-of-fields Malformed w = absurd w
 
--- each field is at least `0` byte by byte, so a line's text has no line feed, and tabs only between fields
+-- each field is at least `0` byte by byte, so a line's text has no line feed, and tabs only between
+-- fields
 fields-high : (l : Line) → allHigh (fieldsOf l) ≡ true
 unfolding fieldsOf allHigh
 fields-high (OfTick t) = rw (tick-high, high-digits (t .0))
@@ -204,69 +206,77 @@ read-write-line l w =
     rw (split-joined tab (fieldsOf l) (fields-some l w) (all-high-lack tab (fieldsOf l) (omega arith) (fields-high l)))
     (line-of-fields l w)
 
--- what a line may be, by its fields
-line-ind : (P : Line → Type 0) (fs : List (List ℕ)) → (every (tickForm fs) ≡ true → P (OfTick (microsAt fs 1))) →
-    (every (serverForm fs) ≡ true → P (OfServer (serverSaid fs))) →
-    (every (taskForm fs) ≡ true → P (OfTask (taskSaid fs))) → P Malformed → P (lineOf fs)
+-- what a line may be, by its leading word and the fields after it
+line-ind : (P : Line → Type 0) (w : List ℕ) (fs : List (List ℕ)) →
+    (same w (tickForm .word) ≡ true → has tickForm fs ≡ true → P (OfTick (microsAt fs 1))) →
+    (same w (serverForm .word) ≡ true → has serverForm fs ≡ true → P (OfServer (serverSaid fs))) →
+    (same w (taskForm .word) ≡ true → has taskForm fs ≡ true → P (OfTask (taskSaid fs))) → P Malformed → P (lineOf (w ∷ fs))
 unfolding lineOf
-line-ind P fs f g h m =
-    if-ind P (every (tickForm fs)) f
-    (λ a. if-ind P (every (serverForm fs)) g (λ b. if-ind P (every (taskForm fs)) h (λ c. m)))
+line-ind P w fs f g h m =
+    if-ind P (same w (tickForm .word)) (λ a. if-ind P (has tickForm fs) (f a) (λ b. m))
+    (λ a. if-ind P (same w (serverForm .word)) (λ b. if-ind P (has serverForm fs) (g b) (λ c. m))
+    (λ b. if-ind P (same w (taskForm .word)) (λ c. if-ind P (has taskForm fs) (h c) (λ d. m)) (λ c. m)))
 
--- a list by its places
-column : {A : Type 0} → ℕ → (ℕ → A) → List A
-column zero f = []
-column (suc n) f = f 0 ∷ column n (λ k. f (suc k))
+-- a word alone has no form
+pub no-fields : (w : List ℕ) → lineOf (w ∷ []) ≡ Malformed
+unfolding tickForm serverForm taskForm has
+no-fields w =
+    line-ind (λ l. l ≡ Malformed) w [] (λ a h. absurd (clash false h refl)) (λ a h. absurd (clash false h refl))
+    (λ a h. absurd (clash false h refl)) refl
 
-listed : {A : Type 0} (xs : List A) (d : A) (n : ℕ) → length xs ≡ n → column n (λ k. getD xs k d) ≡ xs
-unfolding column
-listed [] d zero e = refl
-listed [] d (suc n) e = absurd (omega arith)
-listed (x ∷ xs) d zero e = absurd (omega arith)
-listed (x ∷ xs) d (suc n) e = ap (λ ys. x ∷ ys) (listed xs d n (omega arith))
+-- what is read of a field, written: the field, if it is as expected
+back : Expected → List ℕ → List ℕ
+back aNumber f = digits (worth f)
+back aKind f = kindWord (kindOf f)
+back aLevel f = levelWord (levelOf f)
+
+back-fits : (e : Expected) (f : List ℕ) → fits e f ≡ true → back e f ≡ f
+unfolding back
+back-fits aNumber f h = digits-worth f h
+back-fits aKind f h = word-kind f h
+back-fits aLevel f h = word-level f h
+
+-- and of the fields from place k on
+backFrom : List Expected → ℕ → List (List ℕ) → List (List ℕ)
+backFrom [] k fs = []
+backFrom (e ∷ es) k fs = back e (getD fs k []) ∷ backFrom es (suc k) fs
+
+back-next : (es : List Expected) (k : ℕ) (f : List ℕ) (fs : List (List ℕ)) → backFrom es (suc k) (f ∷ fs) ≡ backFrom es k fs
+unfolding backFrom
+back-next [] k f fs = refl
+back-next (e ∷ es) k f fs = ap (λ r. back e (getD fs k []) ∷ r) (back-next es (suc k) f fs)
+
+back-all : (es : List Expected) (fs : List (List ℕ)) → length es ≤ length fs → allFit es fs ≡ true → backFrom es 0 fs ≡ fs
+unfolding backFrom allFit
+back-all [] [] l h = refl
+back-all [] (f ∷ fs) l h = absurd (clash false h refl)
+back-all (e ∷ es) [] l h = absurd (omega arith)
+back-all (e ∷ es) (f ∷ fs) l h =
+    rw (
+      back-fits e f (and-left (fits e f) (allFit es fs) h),
+      back-next es 0 f fs,
+      back-all es fs (omega arith) (and-right (fits e f) (allFit es fs) h),
+    )
+
+-- fields that have a form of which each must be there
+form-back : (form : Form) (fs : List (List ℕ)) → length (form .fields) ≤ form .least → has form fs ≡ true →
+    backFrom (form .fields) 0 fs ≡ fs
+unfolding has
+form-back form fs l h =
+    let n = leb (form .least) (length fs) in
+    let f = allFit (form .fields) fs in
+    back-all (form .fields) fs (omega (arith, leb-true (form .least) (length fs) (and-left n f h))) (and-right n f h)
 
 fields-of-line : (fs : List (List ℕ)) → Formed (lineOf fs) → fieldsOf (lineOf fs) ≡ fs
-unfolding fieldsOf tickForm serverForm taskForm column
-fields-of-line fs = line-ind (λ l. Formed l → fieldsOf l ≡ fs) fs tick server task (λ f. absurd f)
-  where
-    at : ℕ → List ℕ
-    at = fieldAt fs
-
-    tick : every (tickForm fs) ≡ true → Unit {0} → (tickWord ∷ digits (worth (fieldAt fs 1)) ∷ []) ≡ fs
-    tick e u =
-        let t = every-at (tickForm fs) e in
-        rw (digits-worth (fieldAt fs 1) (t 2), ← same-eq (fieldAt fs 0) tickWord (t 1))
-        (listed fs [] 2 (eqb-true (length fs) 2 (t 0)))
-
-    server : every (serverForm fs) ≡ true → Unit {0} → fieldsOf (OfServer (serverSaid fs)) ≡ fs
-    server e u =
-        let t = every-at (serverForm fs) e in
-        rw (
-          ← same-eq (fieldAt fs 0) serverWord (t 1),
-          digits-worth (fieldAt fs 1) (t 2),
-          word-kind (fieldAt fs 2) (t 3),
-          digits-worth (fieldAt fs 3) (t 4),
-          digits-worth (fieldAt fs 4) (t 5),
-          digits-worth (fieldAt fs 5) (t 6),
-          digits-worth (fieldAt fs 6) (t 7),
-          digits-worth (fieldAt fs 7) (t 8),
-        )
-        (listed fs [] 8 (eqb-true (length fs) 8 (t 0)))
-
-    task : every (taskForm fs) ≡ true → Unit {0} → fieldsOf (OfTask (taskSaid fs)) ≡ fs
-    task e u =
-        let t = every-at (taskForm fs) e in
-        rw (
-          ← same-eq (fieldAt fs 0) taskWord (t 1),
-          digits-worth (fieldAt fs 1) (t 2),
-          digits-worth (fieldAt fs 2) (t 3),
-          digits-worth (fieldAt fs 3) (t 4),
-          word-level (fieldAt fs 4) (t 5),
-          digits-worth (fieldAt fs 5) (t 6),
-          digits-worth (fieldAt fs 6) (t 7),
-          digits-worth (fieldAt fs 7) (t 8),
-        )
-        (listed fs [] 8 (eqb-true (length fs) 8 (t 0)))
+unfolding fieldsOf tickForm serverForm taskForm back backFrom lineOf
+fields-of-line [] f = absurd f
+fields-of-line (w ∷ fs) f =
+    line-ind (λ l. Formed l → fieldsOf l ≡ w ∷ fs) w fs
+    (λ a h u. ap₂ _∷_ (sym (same-eq w tickWord a)) (form-back tickForm fs (omega arith) h))
+    (λ a h u. ap₂ _∷_ (sym (same-eq w serverWord a)) (form-back serverForm fs (omega arith) h))
+    (λ a h u. ap₂ _∷_ (sym (same-eq w taskWord a)) (form-back taskForm fs (omega arith) h))
+    (λ m. absurd m)
+    f
 
 -- what is read of a line that has a form is written as it stands
 pub write-read-line : (l : List ℕ) → Formed (readLine l) → writeLine (readLine l) ≡ l

@@ -1,5 +1,6 @@
--- 01, Numbers for no: "Each is given exactly in its case". Of a line: "line by line 1, 2, 3, 4", the first test that fails.
--- Of a table that is written: "Others: 13 first", and the room is as it was, but for the text. Assumes nothing.
+-- 01, Numbers for no: "Each is given exactly in its case". Of a line: "line by line 1, 2, 3, 4",
+-- the first test that fails. Of a table that is written: "Others: 13 first", and the room is as it
+-- was, but for the text. Assumes nothing.
 use mathlib.Core.Path.{_≡_, refl}
 use mathlib.Core.Bool.{Bool, true, false}
 use mathlib.Core.List.{List}
@@ -12,82 +13,82 @@ use lib.Seq.{drop-append-seam}
 use borrow.Author.Tests.{leb-true, leb-false, lt-leb}
 use Rattle.laws.specs.Choice.{unless_say_else_, every}
 use Rattle.laws.proofs.Choice.{if-ind}
+use Rattle.table.specs.declared.ByMode.{ByMode}
 use Rattle.table.specs.declared.Server.{Server}
-use Rattle.table.specs.declared.Task.{Task}
 use Rattle.table.specs.declared.Table.{Table}
 use Rattle.table.specs.declared.Refusal.{Refusal}
 use Rattle.table.specs.declared.Refusal.the-variants.{Malformed, OutOfBounds, NotWhole, AbsentRow, OtherPartition, NotTimed, OtherServer, Falling, RoomShort, Unsound}
-use Rattle.table.specs.Refusals.{numberOf}
+use Rattle.table.specs.Refusals.{numberOf, standingNumber}
 use Rattle.table.specs.Rows.{Rows, rowsOf}
-use Rattle.table.specs.Rules.{tableKeeps, rowsThere, samePartition, degradedTimed, timedAtHome, rising}
+use Rattle.table.specs.Rules.{tableKeeps, rowsThere, samePartition, degradedTimed, timedAtHome, rising, taskFault}
 use Rattle.text.specs.declared.Line.{Line}
 use Rattle.text.specs.declared.Line.the-variants.{OfTick, OfServer, OfTask, Malformed as MalformedLine}
-use Rattle.text.specs.declared.Judged.{Judged}
-use Rattle.text.specs.declared.Judged.the-variants.{Kept, Broken}
-use Rattle.text.specs.Judge.{judgedNumber, placed, bounds, wholes, taskFault, fault, judge}
+use Rattle.table.specs.declared.Standing.{Standing}
+use Rattle.table.specs.declared.Standing.the-variants.{Kept, Broken}
+use Rattle.text.specs.Standing.{limitsOf, placed, bounds, wholes, fault, standing}
 use Rattle.text.specs.Write.{Wrote, write, writingNumber, unwritten, written, wrote}
 
 -- the last test of a line says 4 or nothing
-abbrev FourOrKept : Judged → Type 0
+abbrev FourOrKept : Standing → Type 0
 FourOrKept Kept = Unit {0}
 FourOrKept (Broken why) = numberOf why ≡ 4
 
-four : (b : Bool) (why : Refusal) (r : Judged) → numberOf why ≡ 4 → FourOrKept r →
+four : (b : Bool) (why : Refusal) (r : Standing) → numberOf why ≡ 4 → FourOrKept r →
     FourOrKept (unless b say Broken why else r)
 four true why r e q = q
 four false why r e q = e
 
-task-four : (ss : List Server) (k : Task) → FourOrKept (taskFault ss k)
+task-four : (ss : List Server) (h d : ℕ) (x : ByMode) → FourOrKept (taskFault ss h d x)
 unfolding taskFault
-task-four ss k =
-    four (rowsThere ss k) AbsentRow _ refl
-    (four (samePartition ss k) OtherPartition _ refl
-    (four (degradedTimed ss k) NotTimed _ refl
-    (four (timedAtHome ss k) OtherServer _ refl
-    (four (rising (k .limit)) Falling _ refl tt))))
+task-four ss h d x =
+    four (rowsThere ss h d) AbsentRow _ refl
+    (four (samePartition ss h d) OtherPartition _ refl
+    (four (degradedTimed ss d) NotTimed _ refl
+    (four (timedAtHome ss h d) OtherServer _ refl
+    (four (rising x) Falling _ refl tt))))
 
 fault-four : (a : Rows) (l : Line) → FourOrKept (fault a l)
 unfolding fault
 fault-four a (OfTick t) = tt
 fault-four a (OfServer s) = tt
-fault-four a (OfTask k) = task-four (a .servers) _
+fault-four a (OfTask k) = task-four (a .servers) (k .home) (k .degraded) (limitsOf (a .tick .0) (k .limit))
 fault-four a MalformedLine = tt
 
 -- a line's tests in the page's order, whatever they are
-abbrev pub inOrder : Bool → Bool → Bool → Judged → Judged
+abbrev pub inOrder : Bool → Bool → Bool → Standing → Standing
 inOrder p b w f =
     unless p say Broken Malformed else unless b say Broken OutOfBounds else unless w say Broken NotWhole else f
 
 pub in-order : (n : ℕ) (a : Rows) (l : Line) →
-    judge n a l ≡ inOrder (placed n a l) (every (bounds a l)) (every (wholes a l)) (fault a l)
-unfolding judge
+    standing n a l ≡ inOrder (placed n a l) (every (bounds a l)) (every (wholes a l)) (fault a l)
+unfolding standing
 in-order n a l = refl
 
-only-4 : (m : ℕ) (f : Judged) → FourOrKept f → judgedNumber f ≡ m → 0 < m → m < 4 → ⊥
+only-4 : (m : ℕ) (f : Standing) → FourOrKept f → standingNumber f ≡ m → 0 < m → m < 4 → ⊥
 only-4 m Kept q e l h = omega arith
 only-4 m (Broken why) q e l h = omega arith
 
-says-1 : (p b w : Bool) (f : Judged) → FourOrKept f → judgedNumber (inOrder p b w f) ≡ 1 → p ≡ false
+says-1 : (p b w : Bool) (f : Standing) → FourOrKept f → standingNumber (inOrder p b w f) ≡ 1 → p ≡ false
 says-1 false b w f q e = refl
 says-1 true false w f q e = absurd (omega arith)
 says-1 true true false f q e = absurd (omega arith)
 says-1 true true true f q e = absurd (only-4 1 f q e (omega arith) (omega arith))
 
-says-2 : (p b w : Bool) (f : Judged) → FourOrKept f → judgedNumber (inOrder p b w f) ≡ 2 → (p ≡ true) × (b ≡ false)
+says-2 : (p b w : Bool) (f : Standing) → FourOrKept f → standingNumber (inOrder p b w f) ≡ 2 → (p ≡ true) × (b ≡ false)
 says-2 false b w f q e = absurd (omega arith)
 says-2 true false w f q e = (refl, refl)
 says-2 true true false f q e = absurd (omega arith)
 says-2 true true true f q e = absurd (only-4 2 f q e (omega arith) (omega arith))
 
-says-3 : (p b w : Bool) (f : Judged) → FourOrKept f → judgedNumber (inOrder p b w f) ≡ 3 →
+says-3 : (p b w : Bool) (f : Standing) → FourOrKept f → standingNumber (inOrder p b w f) ≡ 3 →
     (p ≡ true) × (b ≡ true) × (w ≡ false)
 says-3 false b w f q e = absurd (omega arith)
 says-3 true false w f q e = absurd (omega arith)
 says-3 true true false f q e = (refl, refl, refl)
 says-3 true true true f q e = absurd (only-4 3 f q e (omega arith) (omega arith))
 
-says-4 : (p b w : Bool) (f : Judged) → judgedNumber (inOrder p b w f) ≡ 4 →
-    (p ≡ true) × (b ≡ true) × (w ≡ true) × (judgedNumber f ≡ 4)
+says-4 : (p b w : Bool) (f : Standing) → standingNumber (inOrder p b w f) ≡ 4 →
+    (p ≡ true) × (b ≡ true) × (w ≡ true) × (standingNumber f ≡ 4)
 says-4 false b w f e = absurd (omega arith)
 says-4 true false w f e = absurd (omega arith)
 says-4 true true false f e = absurd (omega arith)
@@ -95,21 +96,21 @@ says-4 true true true f e = (refl, refl, refl, e)
 
 -- The statements to quote: the number of line n below the rows a.
 module _ (n : ℕ) (a : Rows) (l : Line) where
-  pub line-1 : (judgedNumber (judge n a l) ≡ 1) ↔ (placed n a l ≡ false)
+  pub line-1 : (standingNumber (standing n a l) ≡ 1) ↔ (placed n a l ≡ false)
   line-1 =
       rw (in-order n a l) (
         says-1 (placed n a l) (every (bounds a l)) (every (wholes a l)) (fault a l) (fault-four a l),
         λ p. rw p,
       )
 
-  pub line-2 : (judgedNumber (judge n a l) ≡ 2) ↔ ((placed n a l ≡ true) × (every (bounds a l) ≡ false))
+  pub line-2 : (standingNumber (standing n a l) ≡ 2) ↔ ((placed n a l ≡ true) × (every (bounds a l) ≡ false))
   line-2 =
       rw (in-order n a l) (
         says-2 (placed n a l) (every (bounds a l)) (every (wholes a l)) (fault a l) (fault-four a l),
         λ p. rw (p .0, p .1),
       )
 
-  pub line-3 : (judgedNumber (judge n a l) ≡ 3) ↔
+  pub line-3 : (standingNumber (standing n a l) ≡ 3) ↔
       ((placed n a l ≡ true) × (every (bounds a l) ≡ true) × (every (wholes a l) ≡ false))
   line-3 =
       rw (in-order n a l) (
@@ -117,8 +118,8 @@ module _ (n : ℕ) (a : Rows) (l : Line) where
         λ p. rw (p .0, p .1, p .2),
       )
 
-  pub line-4 : (judgedNumber (judge n a l) ≡ 4) ↔
-      ((placed n a l ≡ true) × (every (bounds a l) ≡ true) × (every (wholes a l) ≡ true) × (judgedNumber (fault a l) ≡ 4))
+  pub line-4 : (standingNumber (standing n a l) ≡ 4) ↔
+      ((placed n a l ≡ true) × (every (bounds a l) ≡ true) × (every (wholes a l) ≡ true) × (standingNumber (fault a l) ≡ 4))
   line-4 =
       rw (in-order n a l) (
         says-4 (placed n a l) (every (bounds a l)) (every (wholes a l)) (fault a l),

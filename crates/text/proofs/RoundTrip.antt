@@ -1,6 +1,7 @@
--- 01, Tables: "Writing then reading gives the same table. Reading then writing gives the same text exactly when each
--- task time was whole ticks." Text and lines are inverse, and so are lines and rows, but for task times that are
--- rounded up. The statements to quote stand at the end. Assumes nothing.
+-- 01, Tables: "Writing then reading gives the same table. Reading then writing gives the same text
+-- exactly when each task time was whole ticks." Text and lines are inverse, and so are lines and
+-- rows, but for task times that are rounded up. The statements to quote stand at the end. Assumes
+-- nothing.
 use mathlib.Core.Path.{_≡_, refl, sym, ap, subst, _∙_}
 use mathlib.Core.Bool.{true}
 use mathlib.Core.List.{List, [], _∷_, _++_, map, append-cancel-right}
@@ -10,10 +11,9 @@ use native.Mathlib.Omega.{arith}
 use lib.ListN.{length, replicate, length-append, length-map}
 use lib.Seq.{take-append-seam}
 use borrow.Author.Tests.{le-leb}
-use Rattle.laws.specs.Choice.{every}
 use Rattle.laws.proofs.Choice.{and-true, and-left, and-right, is-within}
-use Rattle.decimal.specs.Parts.{lineFeed, split, closed}
-use Rattle.decimal.proofs.Parts.{AllUpTo, closed-length, lacks, allLack, split-closed, closed-split}
+use Rattle.decimal.specs.Lines.{lineFeed, split, closed}
+use Rattle.decimal.proofs.Lines.{AllUpTo, closed-length, lacks, allLack, split-closed, closed-split}
 use Rattle.table.specs.declared.Table.{Table}
 use Rattle.table.specs.Rows.{Rows, rowsOf, tableOf, noServer, noTask}
 use Rattle.table.specs.Rules.{keeps, tableKeeps}
@@ -21,13 +21,13 @@ use Rattle.table.proofs.Rules.{rows-keep as table-rows-keep}
 use Rattle.text.specs.declared.Line.{Line}
 use Rattle.text.specs.declared.Line.the-variants.{OfTick, OfServer, OfTask, Malformed}
 use Rattle.text.specs.declared.Reading.the-variants.{Taken}
-use Rattle.text.specs.Line.{readLine, writeLine, lineOf, tickForm, serverForm, taskForm}
+use Rattle.text.specs.Line.{readLine, writeLine}
 use Rattle.text.specs.Read.{taken, read, shown}
 use Rattle.text.specs.Allowed.{Allowed}
 use Rattle.text.specs.Write.{wrote, written, serverBack, taskBack, serverLines, taskLines, linesOf, write, taskTimesWhole, allTimesWhole, timesWhole}
-use Rattle.text.proofs.Lines.{Writable, Formed, line-lacks, read-write-line, write-read-line, line-length}
+use Rattle.text.proofs.Lines.{Writable, Formed, no-fields, line-lacks, read-write-line, write-read-line, line-length}
 use Rattle.text.proofs.Ticks.{rounded, whole-stays, stays-whole}
-use Rattle.text.proofs.AllLines.{AllWritable, Told, told, RowsKeep, good-keeps, keeps-rows, lines-taken, lines-grown}
+use Rattle.text.proofs.Allowed.{AllWritable, Told, told, RowsKeep, good-keeps, keeps-rows, lines-taken, lines-grown}
 use Rattle.text.proofs.Allowed.{allowed-taken, taken-allowed}
 
 -- all lines at once
@@ -105,10 +105,11 @@ rows-keep text e =
     let d = told (map readLine (w .lines)) (w .kept) (rw (w .rows) (w .task)) in
     good-keeps (read text .rows) (rw (w .rows) at (d .good)) (w .task) (w .servers-differ) (w .tasks-differ)
 
--- Which lines stay as they stand: those whose task times are whole ticks. Nothing stands after the last line feed.
+-- Which lines stay as they stand: those whose task times are whole ticks. Nothing stands after the
+-- last line feed.
 nothing-said : readLine [] ≡ Malformed
-unfolding readLine lineOf split tickForm serverForm taskForm every
-nothing-said = refl
+unfolding readLine split
+nothing-said = no-fields []
 
 whole-stay : (t : ℕ) → 0 < t → (ls : List (List ℕ)) → allTimesWhole t (ls ++ ([] ∷ [])) ≡ true →
     map (rounded t) (map readLine ls) ≡ map readLine ls
@@ -191,8 +192,8 @@ rows-table a e =
     let q = is-within 1 64 (length (a .tasks)) (k .tasks-low) (k .good .tasks-high) in
     rw (p, q, table-rows a) e
 
--- The statements to quote. `shown (read text)` is what the reader answers, and `write (rowsOf t)` is the text that the
--- writer writes of t.
+-- The statements to quote. `shown (read text)` is what the reader answers, and `write (rowsOf t)`
+-- is the text that the writer writes of t.
 
 -- "Writing then reading gives the same table", on the rows in use.
 pub write-then-read : (t : Table) → tableKeeps t ≡ true →

@@ -1,5 +1,6 @@
--- From microseconds to ticks and back: a whole number of ticks comes back as it was, and a row comes back from its
--- line. Only a task time may change on the way, and it does exactly where it was not whole ticks. Assumes nothing.
+-- From microseconds to ticks and back: a whole number of ticks comes back as it was, and a row
+-- comes back from its line. Only a task time may change on the way, and it does exactly where it
+-- was not whole ticks. Assumes nothing.
 use mathlib.Core.Path.{_≡_, refl, ap}
 use mathlib.Core.Bool.{true}
 use mathlib.Core.List.{[], _∷_}
@@ -18,7 +19,7 @@ use Rattle.table.specs.declared.Task.{Task}
 use Rattle.text.specs.declared.ServerLine.{ServerLine}
 use Rattle.text.specs.declared.Line.{Line}
 use Rattle.text.specs.declared.Line.the-variants.{OfTick, OfServer, OfTask, Malformed}
-use Rattle.text.specs.Judge.{inTicks, serverOf, roundedUp, taskOf, whole, serverWhole}
+use Rattle.text.specs.Standing.{inTicks, serverOf, roundedUp, taskOf, whole, serverWhole}
 use Rattle.text.specs.Write.{inMicros, serverBack, taskBack, taskTimesWhole}
 
 -- numbers

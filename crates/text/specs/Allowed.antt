@@ -1,29 +1,31 @@
--- 01, Tables: which texts the page allows, and the rows that they say. The reader takes exactly these (taken-exactly in proofs/RoundTrip.antt).
+-- 01, Tables: which texts the page allows, and the rows that they say. The reader takes exactly
+-- these (taken-exactly in proofs/RoundTrip.antt).
 use mathlib.Core.Path.{_≡_}
 use mathlib.Core.Bool.{true}
 use mathlib.Core.List.{List, [], _∷_, _++_, map}
 use Prim.Native.Nat.{ℕ, _+_, _≤_}
 use lib.ListN.{length, getD}
-use Rattle.decimal.specs.Parts.{lineFeed, split}
+use Rattle.decimal.specs.Lines.{lineFeed, split}
 use Rattle.table.specs.Rows.{Rows, noRows, noServer, noTask}
 use Rattle.table.specs.Rules.{differ}
 use Rattle.text.specs.declared.Line.{Line}
-use Rattle.text.specs.declared.Judged.the-variants.{Kept}
+use Rattle.table.specs.declared.Standing.the-variants.{Kept}
 use Rattle.text.specs.Line.{readLine}
-use Rattle.text.specs.Judge.{judge, grown}
+use Rattle.text.specs.Standing.{standing, grown}
 
 -- each line keeps the rules where it stands: the first as line n, below the rows a
 abbrev pub KeptFrom : ℕ → Rows → List Line → Type 0
 KeptFrom n a [] = Unit {0}
-KeptFrom n a (l ∷ ls) = (judge n a l ≡ Kept) × KeptFrom (n + 1) (grown a l) ls
+KeptFrom n a (l ∷ ls) = (standing n a l ≡ Kept) × KeptFrom (n + 1) (grown a l) ls
 
 -- the rows a with those of the lines
 unfoldable pub grownBy : Rows → List Line → Rows
 grownBy a [] = a
 grownBy a (l ∷ ls) = grownBy (grown a l) ls
 
--- "The text is at most 16,384 bytes"; it is lines, "each closed by a line feed, the last too", so that nothing stands after the last line
--- feed; each line keeps the rules where it stands; there is a task; and "Server priorities differ from one another; so do task priorities."
+-- "The text is at most 16,384 bytes"; it is lines, "each closed by a line feed, the last too", so
+-- that nothing stands after the last line feed; each line keeps the rules where it stands; there is
+-- a task; and "Server priorities differ from one another; so do task priorities."
 pub record Allowed (text : List ℕ) (a : Rows) : Type 0 where
   pub short : length text ≤ 16384
   pub lines : List (List ℕ)

@@ -1,6 +1,6 @@
 pub mod Words
 pub mod Line
-pub mod Judge
+pub mod Standing
 pub mod Read
 pub mod Allowed
 pub mod Write

@@ -1,13 +1,14 @@
--- 01, Tables: what a line says, in microseconds, as it stands. Here is judged only whether the line has the form of a `tick`, a
--- `server` or a `task` line; bounds and rows are judged in Judge.antt, and know nothing of bytes.
-use mathlib.Core.Bool.{Bool}
+-- 01, Tables: what a line says, in microseconds, as it stands. Here is judged only whether the line
+-- has the form of a `tick`, a `server` or a `task` line; bounds and rows are judged in
+-- Standing.antt, and know nothing of bytes.
+use mathlib.Core.Bool.{Bool, true, false, _&&_}
 use mathlib.Core.List.{List, [], _∷_}
-use Prim.Native.Nat.{ℕ}
-use lib.Dec.{eqb}
+use Prim.Native.Nat.{ℕ, _-_}
+use lib.Dec.{leb}
 use lib.ListN.{length, getD}
-use Rattle.laws.specs.Choice.{if_then_else_, every}
+use Rattle.laws.specs.Choice.{if_then_else_}
 use Rattle.decimal.specs.Number.{isNumber, worth, digits}
-use Rattle.decimal.specs.Parts.{tab, split, join, same}
+use Rattle.decimal.specs.Lines.{tab, split, join, same}
 use Rattle.units.specs.declared.Micros.{Micros}
 use Rattle.text.specs.declared.Times.{Times}
 use Rattle.text.specs.declared.ServerLine.{ServerLine}
@@ -16,41 +17,61 @@ use Rattle.text.specs.declared.Line.{Line}
 use Rattle.text.specs.declared.Line.the-variants.{OfTick, OfServer, OfTask, Malformed}
 use Rattle.text.specs.Words.{tickWord, serverWord, taskWord, isKind, kindOf, kindWord, isLevel, levelOf, levelWord}
 
--- Field 0 is the leading word. A field that is missing is empty: no number and no word.
-abbrev pub fieldAt : List (List ℕ) → ℕ → List ℕ
-fieldAt fs k = getD fs k []
+-- What a field is expected to be. Form and meaning are two definitions, as for numbers.
+pub data Expected : Type 0 where
+  aNumber : Expected
+  aKind : Expected
+  aLevel : Expected
+
+abbrev pub fits : Expected → List ℕ → Bool
+fits aNumber f = isNumber f
+fits aKind f = isKind f
+fits aLevel f = isLevel f
+
+-- The form of a kind of line: its leading word, what each field after it is expected to be, and how
+-- many fields there are at least.
+pub record Form : Type 0 where
+  pub word : List ℕ
+  pub fields : List Expected
+  pub least : ℕ
 
 -- "`tick`: microseconds in a tick"
-unfoldable pub tickForm : List (List ℕ) → List Bool
-tickForm fs = eqb (length fs) 2 ∷ same (fieldAt fs 0) tickWord ∷ isNumber (fieldAt fs 1) ∷ []
+unfoldable pub tickForm : Form
+tickForm = record { word = tickWord; fields = aNumber ∷ []; least = 1 }
 
--- "`server`: partition 0 to 15; kind; priority 1 to 255, greater first; period; capacities in N, D1, D2."
-unfoldable pub serverForm : List (List ℕ) → List Bool
-serverForm fs =
-    eqb (length fs) 8
-    ∷ same (fieldAt fs 0) serverWord
-    ∷ isNumber (fieldAt fs 1)
-    ∷ isKind (fieldAt fs 2)
-    ∷ isNumber (fieldAt fs 3)
-    ∷ isNumber (fieldAt fs 4)
-    ∷ isNumber (fieldAt fs 5)
-    ∷ isNumber (fieldAt fs 6)
-    ∷ isNumber (fieldAt fs 7)
-    ∷ []
+-- "`server`: partition 0 to 15; kind; priority 1 to 255, greater first; period; capacities in N,
+-- D1, D2."
+unfoldable pub serverForm : Form
+serverForm =
+    record {
+      word = serverWord;
+      fields = aNumber ∷ aKind ∷ aNumber ∷ aNumber ∷ aNumber ∷ aNumber ∷ aNumber ∷ [];
+      least = 7;
+    }
 
--- "`task`: home server; degraded server; priority 1 to 255, greater first; level; limits for N, D1, D2"
-unfoldable pub taskForm : List (List ℕ) → List Bool
-taskForm fs =
-    eqb (length fs) 8
-    ∷ same (fieldAt fs 0) taskWord
-    ∷ isNumber (fieldAt fs 1)
-    ∷ isNumber (fieldAt fs 2)
-    ∷ isNumber (fieldAt fs 3)
-    ∷ isLevel (fieldAt fs 4)
-    ∷ isNumber (fieldAt fs 5)
-    ∷ isNumber (fieldAt fs 6)
-    ∷ isNumber (fieldAt fs 7)
-    ∷ []
+-- "`task`: home server; degraded server; priority 1 to 255, greater first; level; limits for N, D1,
+-- D2"
+unfoldable pub taskForm : Form
+taskForm =
+    record {
+      word = taskWord;
+      fields = aNumber ∷ aNumber ∷ aNumber ∷ aLevel ∷ aNumber ∷ aNumber ∷ aNumber ∷ [];
+      least = 7;
+    }
+
+-- each field is what is expected there, and there is none beyond
+unfoldable pub allFit : List Expected → List (List ℕ) → Bool
+allFit es [] = true
+allFit [] (f ∷ fs) = false
+allFit (e ∷ es) (f ∷ fs) = fits e f && allFit es fs
+
+-- there are enough fields, and each is as the form expects
+unfoldable pub has : Form → List (List ℕ) → Bool
+has form fs = leb (form .least) (length fs) && allFit (form .fields) fs
+
+-- Fields count from 1 after the leading word. One that is missing is empty: no number and no word.
+abbrev pub fieldAt : List (List ℕ) → ℕ → List ℕ
+fieldAt fs k = getD fs (k - 1) []
 
 -- "text holds microseconds"
 abbrev pub microsAt : List (List ℕ) → ℕ → Micros
@@ -80,11 +101,17 @@ taskSaid fs =
       limit = timesAt fs;
     }
 
+-- what a line says whose fields have the form
+abbrev pub formed : Form → List (List ℕ) → Line → Line
+formed form fs said = if has form fs then said else Malformed
+
+-- The leading word tells which form the fields after it must have.
 unfoldable pub lineOf : List (List ℕ) → Line
-lineOf fs =
-    if every (tickForm fs) then OfTick (microsAt fs 1)
-    else if every (serverForm fs) then OfServer (serverSaid fs)
-    else if every (taskForm fs) then OfTask (taskSaid fs)
+lineOf [] = Malformed
+lineOf (w ∷ fs) =
+    if same w (tickForm .word) then formed tickForm fs (OfTick (microsAt fs 1))
+    else if same w (serverForm .word) then formed serverForm fs (OfServer (serverSaid fs))
+    else if same w (taskForm .word) then formed taskForm fs (OfTask (taskSaid fs))
     else Malformed
 
 -- "lines parted by tabs"

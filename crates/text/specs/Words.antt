@@ -4,7 +4,7 @@ use mathlib.Core.List.{List}
 use Prim.Native.Nat.{ℕ}
 use Rattle.laws.specs.Choice.{if_then_else_}
 use Rattle.laws.specs.Quoted.{bytes}
-use Rattle.decimal.specs.Parts.{same}
+use Rattle.decimal.specs.Lines.{same}
 use Rattle.table.specs.declared.Kind.{Kind}
 use Rattle.table.specs.declared.Kind.the-variants.{Event, Timed}
 use Rattle.table.specs.declared.Level.{Level}

@@ -1,11 +1,12 @@
--- 01, Tables and Numbers for no: the text of a table's rows, and what the writer answers and leaves in the lent room.
+-- 01, Tables and Numbers for no: the text of a table's rows, and what the writer answers and leaves
+-- in the lent room.
 use mathlib.Core.Bool.{Bool, true, _&&_}
 use mathlib.Core.List.{List, [], _∷_, _++_, map}
 use Prim.Native.Nat.{ℕ, _*_}
 use lib.Dec.{leb}
 use lib.ListN.{length, drop}
 use Rattle.laws.specs.Choice.{unless_say_else_, every}
-use Rattle.decimal.specs.Parts.{lineFeed, split, closed}
+use Rattle.decimal.specs.Lines.{lineFeed, split, closed}
 use Rattle.units.specs.declared.Ticks.{Ticks}
 use Rattle.units.specs.declared.Micros.{Micros}
 use Rattle.table.specs.declared.ByMode.{ByMode}
@@ -25,9 +26,10 @@ use Rattle.text.specs.declared.Line.the-variants.{OfTick, OfServer, OfTa
 use Rattle.text.specs.declared.Writing.{Writing}
 use Rattle.text.specs.declared.Writing.the-variants.{Written, Refused}
 use Rattle.text.specs.Line.{readLine, writeLine}
-use Rattle.text.specs.Judge.{whole}
+use Rattle.text.specs.Standing.{whole}
 
--- "text holds microseconds, a run holds ticks": back to microseconds, in a table whose tick is t microseconds
+-- "text holds microseconds, a run holds ticks": back to microseconds, in a table whose tick is t
+-- microseconds
 abbrev pub inMicros : ℕ → Ticks → Micros
 inMicros t x = record { 0 = x .0 * t }
 
@@ -68,7 +70,8 @@ linesOf a = OfTick (a .tick) ∷ (serverLines (a .tick .0) (a .servers) ++ taskL
 unfoldable pub write : Rows → List ℕ
 write a = closed (map writeLine (linesOf a))
 
--- The paper's number of each answer, 0 where the text is written, and the value with it: how many bytes are the text.
+-- The paper's number of each answer, 0 where the text is written, and the value with it: how many
+-- bytes are the text.
 abbrev pub writingNumber : Writing → ℕ
 writingNumber (Written many) = 0
 writingNumber (Refused why) = numberOf why

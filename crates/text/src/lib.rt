@@ -1,5 +1,6 @@
-// Table text: what a line says, and the answers of the reader and the writer. (01, Tables and Numbers for no.) Which answer is
-// right is in specs/: Line.antt, Judge.antt, Read.antt, Write.antt. The code is in the crates reader and writer.
+// Table text: what a line says, and the answers of the reader and the writer. (01, Tables and
+// Numbers for no.) Which answer is right is in specs/: Line.antt, Standing.antt, Read.antt,
+// Write.antt. The code is in the crates reader and writer.
 
 use table::Kind;
 use table::Level;
@@ -8,7 +9,7 @@ use table::Table;
 use units::Micros;
 
 // "The text is at most 16,384 bytes".
-pub const LONGEST: usize = 16384;
+pub const LONGEST_TEXT: usize = 16384;
 
 // A time for each mode, as a line has it: a server's capacities, a task's limits.
 pub struct Times {
@@ -41,12 +42,6 @@ pub enum Line {
     Malformed,
 }
 
-// Whether a line keeps the rules where it stands, or which it breaks.
-pub enum Judged {
-    Kept,
-    Broken(Refusal),
-}
-
 // What the reader answers: lines count from 1, and 0 is the text itself.
 pub enum Reading {
     Taken,
@@ -54,7 +49,8 @@ pub enum Reading {
     Equal { first: usize, second: usize },
 }
 
-// The table stands beside the answer. Where the text is refused it is one without rows, noTable in specs/Read.antt.
+// The table stands beside the answer. Where the text is refused it is one without rows, noTable of
+// crate table.
 pub struct Read {
     pub answer: Reading,
     pub table: Table,

@@ -1,5 +1,5 @@
-// The writer of table text. (01, Tables and Numbers for no.) What the text of a table is, and what is answered and left
-// in the lent room, is in crate text, specs/Write.antt.
+// The writer of table text. (01, Tables and Numbers for no.) What the text of a table is, and what
+// is answered and left in the lent room, is in crate text, specs/Write.antt.
 
 use decimal::put::put_all;
 use decimal::put::put_byte;
@@ -11,7 +11,7 @@ use table::Refusal;
 use table::Server;
 use table::Table;
 use table::Task;
-use text::LONGEST;
+use text::LONGEST_TEXT;
 use text::Writing;
 use units::Micros;
 use units::Ticks;
@@ -20,7 +20,7 @@ ghost use mathlib.Core.Bool.{true};
 ghost use mathlib.Core.List.{[], _∷_, _++_, map};
 ghost use Prim.Native.Nat.{_≤_};
 ghost use Rattle.decimal.specs.Number.{digits};
-ghost use Rattle.decimal.specs.Parts.{tab, join, closed};
+ghost use Rattle.decimal.specs.Lines.{tab, join, closed};
 ghost use Rattle.decimal.specs.Room.{Put};
 ghost use Rattle.table.specs.Rows.{rowsOf};
 ghost use Rattle.table.specs.Rules.{tableKeeps};
@@ -167,15 +167,15 @@ fn put_table(t: Table, room: &mut [u8]) -> usize
     put_tasks(t, room, k)
 }
 
-// "Others: 13 first"; 12, "lent room shorter than the text": the text is made in a room of its own, so that a refused
-// writer leaves the lent room as it was.
+// "Others: 13 first"; 12, "lent room shorter than the text": the text is made in a room of its own,
+// so that a refused writer leaves the lent room as it was.
 pub fn write_table(t: Table, room: &mut [u8]) -> Writing
     ensures { λ r. ⌜ record { answer = r; room = now (room .exit) } ≡ wrote t (now (room .entry)) ⌝ }
 {
     if !table::table_keeps(t) {
         return Writing::Refused(Refusal::Unsound);
     }
-    let mut text = [0u8; LONGEST];
+    let mut text = [0u8; LONGEST_TEXT];
     let many = put_table(t, &mut text);
     if room.len() < many {
         return Writing::Refused(Refusal::RoomShort);

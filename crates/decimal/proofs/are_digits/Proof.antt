@@ -1,11 +1,12 @@
--- `decimal::are_digits` meets its contract: the bytes before i are digits, so those from i on decide. Assumes nothing.
+-- `decimal::are_digits` meets its contract: the bytes before i are digits, so those from i on
+-- decide. Assumes nothing.
 use mathlib.Core.Path.{_≡_, refl, sym, _∙_}
 use Prim.Native.Nat.{_-_, _≤_}
 use native.Mathlib.Omega.{arith}
 use borrow.Author.Needs.{needs}
 use lib.ListN.{length, drop}
 use Rattle.decimal.specs.Number.{areDigits}
-use Rattle.decimal.proofs.Walk.{digits-next, digits-low, digits-high, digits-done}
+use Rattle.decimal.proofs.Numbers.{digits-next, digits-low, digits-high, digits-done}
 use Rattle.decimal.proofs.are_digits.Statement.{statement}
 use Rattle.decimal.proofs.are_digits.Tie as tie
 
@@ -59,15 +60,5 @@ returns-3 c =
 pub are-digits-spec : {M : Type 1} → statement M
 are-digits-spec =
     tie.close
-    (tie.spec
-    Inv-loop
-    μ-loop
-    loop-holds
-    shared-slice-read-if1
-    returns
-    shared-slice-read-if2
-    returns-2
-    add-i
-    loop-less
-    loop-again
-    returns-3)
+    (tie.spec Inv-loop μ-loop loop-holds shared-slice-read-if1 returns shared-slice-read-if2 returns-2 add-i
+    loop-less loop-again returns-3)

@@ -1,4 +1,5 @@
--- `decimal::field` meets its contract: `left` fields stand between `at` and the field that is wanted. Assumes nothing.
+-- `decimal::field` meets its contract: `left` fields stand between `at` and the field that is
+-- wanted. Assumes nothing.
 use mathlib.Core.Path.{_≡_, refl, sym, _∙_}
 use mathlib.Core.List.{[]}
 use Prim.Native.Nat.{_-_, _≤_, _<_}
@@ -6,8 +7,8 @@ use native.Mathlib.Omega.{arith}
 use borrow.Author.Needs.{needs}
 use lib.Arith.{lt-of-le-ne}
 use lib.ListN.{length, getD, drop}
-use Rattle.decimal.specs.Parts.{tab, split}
-use Rattle.decimal.proofs.Cut.{field-next, field-none, field-here}
+use Rattle.decimal.specs.Lines.{tab, split}
+use Rattle.decimal.proofs.Lines.{field-next, field-none, field-here}
 use Rattle.decimal.proofs.field.Statement.{statement}
 use Rattle.decimal.proofs.field.Tie as tie
 
@@ -86,21 +87,6 @@ returns-2 c =
 pub field-spec : {M : Type 1} → statement M
 field-spec =
     tie.close
-    (tie.spec
-    Inv-loop
-    μ-loop
-    loop-holds
-    find-requires
-    sub-result
-    part-result-start
-    part-result-end
-    returns
-    add-at
-    sub-left
-    loop-less
-    loop-again
-    find-requires-2
-    sub-result-2
-    part-result-start-2
-    part-result-end-2
+    (tie.spec Inv-loop μ-loop loop-holds find-requires sub-result part-result-start part-result-end returns
+    add-at sub-left loop-less loop-again find-requires-2 sub-result-2 part-result-start-2 part-result-end-2
     returns-2)

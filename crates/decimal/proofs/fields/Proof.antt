@@ -1,14 +1,13 @@
--- `decimal::fields` meets its contract: n - 1 tabs stand before `at`, so the line has n - 1 fields and those from `at`
--- on.
--- Assumes nothing.
+-- `decimal::fields` meets its contract: n - 1 tabs stand before `at`, so the line has n - 1 fields
+-- and those from `at` on. Assumes nothing.
 use mathlib.Core.Path.{_≡_}
 use Prim.Native.Nat.{_+_, _-_, _≤_, _<_}
 use native.Mathlib.Omega.{arith}
 use borrow.Author.Needs.{needs}
 use lib.Arith.{lt-of-le-ne}
 use lib.ListN.{length, drop}
-use Rattle.decimal.specs.Parts.{tab, split}
-use Rattle.decimal.proofs.Cut.{count-next, count-last}
+use Rattle.decimal.specs.Lines.{tab, split}
+use Rattle.decimal.proofs.Lines.{count-next, count-last}
 use Rattle.decimal.proofs.fields.Statement.{statement}
 use Rattle.decimal.proofs.fields.Tie as tie
 

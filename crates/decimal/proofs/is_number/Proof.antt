@@ -1,4 +1,5 @@
--- `decimal::is_number` meets its contract: its tests are those of `numberForm`, in their order. Assumes nothing.
+-- `decimal::is_number` meets its contract: its tests are those of `numberForm`, in their order.
+-- Assumes nothing.
 use Rattle.decimal.specs.Number.{isNumber, numberForm}
 use borrow.Author.Needs.{needs}
 use Rattle.decimal.proofs.is_number.Statement.{statement}
@@ -26,10 +27,5 @@ returns c = cc
 pub is-number-spec : {M : Type 1} → statement M
 is-number-spec =
     tie.close
-    (tie.spec
-    is-within-requires
-    are-digits-requires
-    leads-well-requires
-    slice-aggregate-all-of
-    all-of-requires
-    returns)
+    (tie.spec is-within-requires are-digits-requires leads-well-requires slice-aggregate-all-of
+    all-of-requires returns)

@@ -1,11 +1,12 @@
--- `decimal::is_same` meets its contract: the bytes before i are equal, so those from i on decide. Assumes nothing.
+-- `decimal::is_same` meets its contract: the bytes before i are equal, so those from i on decide.
+-- Assumes nothing.
 use mathlib.Core.Path.{_≡_, refl, sym, _∙_}
 use Prim.Native.Nat.{_-_, _≤_}
 use native.Mathlib.Omega.{arith}
 use borrow.Author.Needs.{needs}
 use lib.ListN.{length, drop}
-use Rattle.decimal.specs.Parts.{same}
-use Rattle.decimal.proofs.Walk.{same-long, same-next, same-not, same-done}
+use Rattle.decimal.specs.Lines.{same}
+use Rattle.decimal.proofs.Lines.{same-long, same-next, same-not, same-done}
 use Rattle.decimal.proofs.is_same.Statement.{statement}
 use Rattle.decimal.proofs.is_same.Tie as tie
 
@@ -60,15 +61,5 @@ returns-3 c =
 pub is-same-spec : {M : Type 1} → statement M
 is-same-spec =
     tie.close
-    (tie.spec
-    Inv-loop
-    μ-loop
-    returns
-    loop-holds
-    shared-slice-read-if2
-    shared-slice-read-if2-2
-    returns-2
-    add-i
-    loop-less
-    loop-again
-    returns-3)
+    (tie.spec Inv-loop μ-loop returns loop-holds shared-slice-read-if2 shared-slice-read-if2-2 returns-2 add-i
+    loop-less loop-again returns-3)

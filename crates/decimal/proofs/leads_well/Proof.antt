@@ -1,8 +1,7 @@
--- `decimal::leads_well` meets its contract: its branches are the tests of `leadsWell`; a first byte that is missing is
--- no zero.
--- Assumes nothing.
+-- `decimal::leads_well` meets its contract: its branches are the tests of `leadsWell`; a first byte
+-- that is missing is no zero. Assumes nothing.
 use borrow.Author.Tests.{eq-eqb, ne-eqb}
-use Rattle.decimal.proofs.Walk.{leads-none}
+use Rattle.decimal.proofs.Numbers.{leads-none}
 use borrow.Author.Needs.{needs}
 use Rattle.decimal.proofs.leads_well.Statement.{statement}
 use Rattle.decimal.proofs.leads_well.Tie as tie

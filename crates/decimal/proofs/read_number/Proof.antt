@@ -1,7 +1,8 @@
--- `decimal::read_number` meets its contract: the form decides, and then the worth is read. Assumes nothing.
+-- `decimal::read_number` meets its contract: the form decides, and then the worth is read. Assumes
+-- nothing.
 use mathlib.Core.Path.{sym, _∙_}
 use borrow.Author.Tests.{not-true, not-false}
-use Rattle.decimal.proofs.Walk.{read-bad, read-value}
+use Rattle.decimal.proofs.Numbers.{read-bad, read-value}
 use borrow.Author.Needs.{needs}
 use Rattle.decimal.proofs.read_number.Statement.{statement}
 use Rattle.decimal.proofs.read_number.Tie as tie

@@ -1,6 +1,5 @@
--- `decimal::worth_of` meets its contract: v is the worth of the digits before i, so it is below 10 ^ i, and the worth
--- of all is that of
--- those from i on after v. Assumes nothing.
+-- `decimal::worth_of` meets its contract: v is the worth of the digits before i, so it is below 10
+-- ^ i, and the worth of all is that of those from i on after v. Assumes nothing.
 use mathlib.Core.Path.{_≡_, refl, sym, _∙_}
 use Prim.Native.Nat.{_-_, _^_, _≤_, _<_}
 use native.Mathlib.Omega.{arith}
@@ -10,7 +9,7 @@ use borrow.Author.Needs.{needs}
 use lib.Dec.{lit<}
 use lib.ListN.{length, drop}
 use Rattle.decimal.specs.Number.{worth, worthFrom}
-use Rattle.decimal.proofs.Walk.{digit-at, number-digits, worth-small, worth-next, worth-done}
+use Rattle.decimal.proofs.Numbers.{digit-at, number-is-digits, worth-small, worth-next, worth-done}
 use Rattle.decimal.proofs.worth_of.Statement.{statement}
 use Rattle.decimal.proofs.worth_of.Tie as tie
 
@@ -30,7 +29,7 @@ digit-requires : tie.Need-digit-requires Inv-loop μ-loop
 digit-requires c κs =
     let start = c .before .before .before .before in
     let s = start .args .s .now in
-    digit-at s (c .before .before .loop .i) (number-digits s (start .pre)) (omega arith)
+    digit-at s (c .before .before .loop .i) (number-is-digits s (start .pre)) (omega arith)
 
 mul-v : tie.Need-mul-v Inv-loop μ-loop
 mul-v c =
@@ -70,15 +69,5 @@ returns c =
 pub worth-of-spec : {M : Type 1} → statement M
 worth-of-spec =
     tie.close
-    (tie.spec
-    Inv-loop
-    μ-loop
-    loop-holds
-    shared-slice-read-digit
-    digit-requires
-    mul-v
-    add-v
-    add-i
-    loop-less
-    loop-again
-    returns)
+    (tie.spec Inv-loop μ-loop loop-holds shared-slice-read-digit digit-requires mul-v add-v add-i loop-less
+    loop-again returns)

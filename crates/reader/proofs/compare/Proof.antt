@@ -1,4 +1,5 @@
--- `reader::compare` meets its contract: the rows of the first pair are told as lines. Assumes nothing.
+-- `reader::compare` meets its contract: the rows of the first pair are told as lines. Assumes
+-- nothing.
 use mathlib.Core.Path.{_≡_, refl, sym, ap, _∙_}
 use Prim.Native.Nat.{_<_}
 use native.Mathlib.Omega.{arith}
@@ -6,8 +7,8 @@ use lib.ListN.{length, getD, take, length-take}
 use lib.Seq.{length-take-le}
 use Rattle.table.specs.Rows.{noServer, rowsOf}
 use Rattle.text.specs.Read.{equalServers, shown}
-use Rattle.reader.proofs.Whole.{rows-pair, pair-below, servers-equal, servers-differ}
-use Rattle.reader.proofs.Growing.{servers-count}
+use Rattle.reader.proofs.Read.{rows-pair, pair-below, servers-equal, servers-differ}
+use Rattle.reader.proofs.Inner.{servers-count}
 use borrow.Author.Needs.{needs}
 use Rattle.reader.proofs.compare.Statement.{statement}
 use Rattle.reader.proofs.compare.Tie as tie
@@ -105,16 +106,6 @@ returns-2 c =
 pub compare-spec : {M : Type 1} → statement M
 compare-spec =
     tie.close
-    (tie.spec
-    server-priorities-requires
-    array-share-prefix-xs
-    slice-aggregate-first-pair
-    first-pair-requires
-    enum-known-p
-    add-refuse-pair
-    add-refuse-pair-2
-    refuse-pair-requires
-    enum-told
-    compare-tasks-requires
-    returns
-    returns-2)
+    (tie.spec server-priorities-requires array-share-prefix-xs slice-aggregate-first-pair first-pair-requires
+    enum-known-p add-refuse-pair add-refuse-pair-2 refuse-pair-requires enum-told compare-tasks-requires
+    returns returns-2)

@@ -1,4 +1,5 @@
--- `reader::compare_tasks` meets its contract: the rows of the first pair are told as lines. Assumes nothing.
+-- `reader::compare_tasks` meets its contract: the rows of the first pair are told as lines. Assumes
+-- nothing.
 use mathlib.Core.Path.{_≡_, refl, sym, ap, _∙_}
 use Prim.Native.Nat.{_+_, _<_}
 use native.Mathlib.Omega.{arith}
@@ -6,7 +7,7 @@ use lib.ListN.{length, getD, take, length-take}
 use lib.Seq.{length-take-le}
 use Rattle.table.specs.Rows.{noTask, rowsOf}
 use Rattle.text.specs.Read.{equalTasks, shown}
-use Rattle.reader.proofs.Whole.{rows-pair, pair-below, tasks-equal, tasks-differ, taken-shown}
+use Rattle.reader.proofs.Read.{rows-pair, pair-below, tasks-equal, tasks-differ, taken-shown}
 use borrow.Author.Needs.{needs}
 use Rattle.reader.proofs.compare_tasks.Statement.{statement}
 use Rattle.reader.proofs.compare_tasks.Tie as tie
@@ -105,16 +106,6 @@ returns-2 c =
 pub compare-tasks-spec : {M : Type 1} → statement M
 compare-tasks-spec =
     tie.close
-    (tie.spec
-    add-top
-    task-priorities-requires
-    array-share-prefix-xs
-    slice-aggregate-first-pair
-    first-pair-requires
-    enum-known-p
-    add-refuse-pair
-    add-refuse-pair-2
-    refuse-pair-requires
-    enum-told
-    returns
+    (tie.spec add-top task-priorities-requires array-share-prefix-xs slice-aggregate-first-pair
+    first-pair-requires enum-known-p add-refuse-pair add-refuse-pair-2 refuse-pair-requires enum-told returns
     returns-2)

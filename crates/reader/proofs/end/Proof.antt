@@ -1,11 +1,12 @@
--- `reader::end` meets its contract: without a task a line is missing, else the rows are compared. Assumes nothing.
+-- `reader::end` meets its contract: without a task a line is missing, else the rows are compared.
+-- Assumes nothing.
 use mathlib.Core.Path.{ap, _∙_}
 use native.Mathlib.Omega.{arith}
 use native.Mathlib.Nat.{pos-of-ne-zero}
 use Rattle.table.specs.Rows.{rowsOf}
 use Rattle.text.specs.Read.{shown}
-use Rattle.reader.proofs.Growing.{no-task, a-task}
-use Rattle.reader.proofs.Whole.{ended-none, ended-some}
+use Rattle.reader.proofs.Inner.{no-task, a-task}
+use Rattle.reader.proofs.Read.{ended-none, ended-some}
 use borrow.Author.Needs.{needs}
 use Rattle.reader.proofs.end.Statement.{statement}
 use Rattle.reader.proofs.end.Tie as tie

@@ -1,17 +1,17 @@
--- `reader::read_table` meets its contract: t holds the rows of the lines before line n, which begins at `at`, so what
--- the text says is what is said from there on. Assumes nothing.
+-- `reader::read_table` meets its contract: t holds the rows of the lines before line n, which
+-- begins at `at`, so what the text says is what is said from there on. Assumes nothing.
 use mathlib.Core.Path.{_≡_, sym, ap, subst, _∙_}
 use Prim.Native.Nat.{_+_, _-_, _≤_, _<_}
 use native.Mathlib.Omega.{arith}
 use borrow.Author.Needs.{needs}
 use lib.Arith.{lt-of-le-ne}
 use lib.ListN.{length, drop}
-use Rattle.decimal.specs.Parts.{lineFeed, split}
+use Rattle.decimal.specs.Lines.{lineFeed, split}
 use Rattle.table.specs.Rows.{noRows, rowsOf}
 use Rattle.text.specs.Read.{readFrom, shown}
-use Rattle.reader.specs.Inner.{Ready}
-use Rattle.reader.proofs.Growing.{grows, ready-next}
-use Rattle.reader.proofs.Whole.{read-long, read-short, starts, starts-from, from-unclosed, from-end, from-broken, from-kept}
+use Rattle.reader.specs.Inner.{Above}
+use Rattle.reader.proofs.Inner.{grows, above-next}
+use Rattle.reader.proofs.Read.{read-long, read-short, starts, starts-from, from-unclosed, from-end, from-broken, from-kept}
 use Rattle.reader.proofs.read_table.Statement.{statement}
 use Rattle.reader.proofs.read_table.Tie as tie
 
@@ -19,7 +19,7 @@ abbrev Inv-loop : tie.InvT-loop
 Inv-loop text t₀ at₀ n₀ t at n =
     (at ≤ length text)
     × (n ≤ at + 1)
-    × Ready n t
+    × Above n t
     × (readFrom 1 noRows (split lineFeed text) ≡ readFrom n (rowsOf t) (split lineFeed (drop at text)))
 
 abbrev μ-loop : tie.MeasureT-loop
@@ -91,8 +91,8 @@ part-read-line-end c = search needs
 read-line-requires : tie.Need-read-line-requires Inv-loop μ-loop
 read-line-requires c κs = tt
 
-judge-line-requires : tie.Need-judge-line-requires Inv-loop μ-loop
-judge-line-requires c κs = c .before .before .before .before .loop .inv .2
+line-standing-requires : tie.Need-line-standing-requires Inv-loop μ-loop
+line-standing-requires c κs = c .before .before .before .before .loop .inv .2
 
 enum-known-j : tie.Need-enum-known-j Inv-loop μ-loop
 enum-known-j c = search needs
@@ -120,7 +120,7 @@ returns-4 c =
     (c .before .before .j .given .0 .0)
     (lt-of-le-ne (f .ensures .1) (c .before .before .before .before .before .before .before .if2 .left))
     (c .before .before .before .before .before .read-line .ensures)
-    (sym (c .before .before .before .before .judge-line .ensures) ∙ c .before .before .j .given .1)
+    (sym (c .before .before .before .before .line-standing .ensures) ∙ c .before .before .j .given .1)
     ∙ sym (l .inv .3)
     ∙ read-short
     s
@@ -137,7 +137,7 @@ grow-requires c κs =
     (l .t)
     (c .before .before .before .read-line .result)
     (l .inv .2)
-    (sym (c .before .before .judge-line .ensures) ∙ c .enum-told .given .1)
+    (sym (c .before .before .line-standing .ensures) ∙ c .enum-told .given .1)
 
 add-at : tie.Need-add-at Inv-loop μ-loop
 add-at c = omega arith
@@ -163,13 +163,13 @@ loop-again c =
     let s = start .args .text .now in
     let m : f .result < length s = lt-of-le-ne (f .ensures .1) (c .before .before .before .before .before .before .if2 .left) in
     let g : l .at ≤ f .result = omega arith in
-    let k = sym (c .before .before .before .judge-line .ensures) ∙ c .before .enum-told .given .1 in (
+    let k = sym (c .before .before .before .line-standing .ensures) ∙ c .before .enum-told .given .1 in (
       omega arith,
       omega arith,
       subst
-          (Ready (l .n + 1))
+          (Above (l .n + 1))
           (sym (c .grow .ensures))
-          (ready-next (l .n) (l .t) (c .before .before .before .before .read-line .result) (l .inv .2) k),
+          (above-next (l .n) (l .t) (c .before .before .before .before .read-line .result) (l .inv .2) k),
       l .inv .3
           ∙ from-kept
           (l .n)
@@ -189,29 +189,7 @@ loop-again c =
 pub read-table-spec : {M : Type 1} → statement M
 read-table-spec =
     tie.close
-    (tie.spec
-    Inv-loop
-    μ-loop
-    refuse-requires
-    returns
-    no-table-requires
-    loop-holds
-    find-requires
-    refuse-requires-2
-    returns-2
-    end-requires
-    returns-3
-    sub-read-line
-    part-read-line-start
-    part-read-line-end
-    read-line-requires
-    judge-line-requires
-    enum-known-j
-    refuse-requires-3
-    returns-4
-    enum-told
-    grow-requires
-    add-at
-    add-n
-    loop-less
-    loop-again)
+    (tie.spec Inv-loop μ-loop refuse-requires returns no-table-requires loop-holds find-requires
+    refuse-requires-2 returns-2 end-requires returns-3 sub-read-line part-read-line-start part-read-line-end
+    read-line-requires line-standing-requires enum-known-j refuse-requires-3 returns-4 enum-told grow-requires
+    add-at add-n loop-less loop-again)

@@ -1,7 +1,7 @@
 -- `writer::put_field` meets its contract: the number, then the tab. Assumes nothing.
 use mathlib.Core.List.{[], _∷_}
 use Rattle.decimal.specs.Number.{digits}
-use Rattle.decimal.specs.Parts.{tab}
+use Rattle.decimal.specs.Lines.{tab}
 use Rattle.decimal.proofs.Room.{put-more}
 use borrow.Author.Needs.{needs}
 use Rattle.writer.proofs.put_field.Statement.{statement}

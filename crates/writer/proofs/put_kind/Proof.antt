@@ -39,14 +39,5 @@ returns-2 c = rw (c .before .before .before .before .before .enum-told2 .given .
 pub put-kind-spec : {M : Type 1} → statement M
 put-kind-spec =
     tie.close
-    (tie.spec
-    enum-told
-    slice-aggregate-put-all
-    put-all-requires
-    enum-told-2
-    slice-aggregate-put-all-2
-    put-all-requires-2
-    same-length
-    returns
-    same-length-2
-    returns-2)
+    (tie.spec enum-told slice-aggregate-put-all put-all-requires enum-told-2 slice-aggregate-put-all-2
+    put-all-requires-2 same-length returns same-length-2 returns-2)

@@ -55,19 +55,6 @@ returns-3 c = rw (c .before .before .before .before .before .enum-told3 .given .
 pub put-level-spec : {M : Type 1} → statement M
 put-level-spec =
     tie.close
-    (tie.spec
-    enum-told
-    slice-aggregate-put-all
-    put-all-requires
-    enum-told-2
-    slice-aggregate-put-all-2
-    put-all-requires-2
-    enum-told-3
-    slice-aggregate-put-all-3
-    put-all-requires-3
-    same-length
-    returns
-    same-length-2
-    returns-2
-    same-length-3
-    returns-3)
+    (tie.spec enum-told slice-aggregate-put-all put-all-requires enum-told-2 slice-aggregate-put-all-2
+    put-all-requires-2 enum-told-3 slice-aggregate-put-all-3 put-all-requires-3 same-length returns
+    same-length-2 returns-2 same-length-3 returns-3)

@@ -61,21 +61,11 @@ returns c =
     (put-field (digits (s .partition)) (kindWord (s .kind)) ps (n .put-field .ensures)
     (put-field (kindWord (s .kind)) (digits (s .priority)) ts (k .put-kind .ensures)
     (put-field (digits (s .priority)) (digits (s .period .0)) xs (p .put-field2 .ensures)
-    (put-field (digits (s .period .0)) (fieldAt xs 0) (fieldAt xs 1 ∷ fieldAt xs 2 ∷ []) (t .put-time .ensures)
+    (put-field (digits (s .period .0)) (fieldAt xs 1) (fieldAt xs 2 ∷ fieldAt xs 3 ∷ []) (t .put-time .ensures)
     (x .put-times .ensures)))))
 
 pub put-server-spec : {M : Type 1} → statement M
 put-server-spec =
     tie.close
-    (tie.spec
-    slice-aggregate-put-all
-    put-all-requires
-    cast-put-field
-    put-field-requires
-    put-kind-requires
-    cast-put-field-2
-    put-field-requires-2
-    put-time-requires
-    put-times-requires
-    same-length
-    returns)
+    (tie.spec slice-aggregate-put-all put-all-requires cast-put-field put-field-requires put-kind-requires
+    cast-put-field-2 put-field-requires-2 put-time-requires put-times-requires same-length returns)

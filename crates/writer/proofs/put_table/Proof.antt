@@ -4,7 +4,7 @@ use Rattle.decimal.specs.Number.{digits}
 use Rattle.decimal.proofs.Room.{put-field, put-last}
 use Rattle.text.specs.Words.{tickWord}
 use Rattle.text.specs.Line.{fieldsOf, writeLine}
-use Rattle.writer.proofs.Written.{put-rows}
+use Rattle.writer.proofs.Write.{put-rows}
 use borrow.Author.Needs.{needs}
 use Rattle.writer.proofs.put_table.Statement.{statement}
 use Rattle.writer.proofs.put_table.Tie as tie
@@ -47,12 +47,5 @@ returns c =
 pub put-table-spec : {M : Type 1} → statement M
 put-table-spec =
     tie.close
-    (tie.spec
-    slice-aggregate-put-all
-    put-all-requires
-    put-number-requires
-    put-byte-requires
-    put-servers-requires
-    put-tasks-requires
-    same-length
-    returns)
+    (tie.spec slice-aggregate-put-all put-all-requires put-number-requires put-byte-requires
+    put-servers-requires put-tasks-requires same-length returns)

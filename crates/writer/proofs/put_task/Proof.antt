@@ -64,22 +64,12 @@ returns c =
     (put-field (digits (s .home)) (digits (s .degraded)) ps (h .put-field .ensures)
     (put-field (digits (s .degraded)) (digits (s .priority)) vs (g .put-field2 .ensures)
     (put-field (digits (s .priority)) (levelWord (s .level)) xs (p .put-field3 .ensures)
-    (put-field (levelWord (s .level)) (fieldAt xs 0) (fieldAt xs 1 ∷ fieldAt xs 2 ∷ []) (v .put-level .ensures)
+    (put-field (levelWord (s .level)) (fieldAt xs 1) (fieldAt xs 2 ∷ fieldAt xs 3 ∷ []) (v .put-level .ensures)
     (x .put-times .ensures)))))
 
 pub put-task-spec : {M : Type 1} → statement M
 put-task-spec =
     tie.close
-    (tie.spec
-    slice-aggregate-put-all
-    put-all-requires
-    cast-put-field
-    put-field-requires
-    cast-put-field-2
-    put-field-requires-2
-    cast-put-field-3
-    put-field-requires-3
-    put-level-requires
-    put-times-requires
-    same-length
-    returns)
+    (tie.spec slice-aggregate-put-all put-all-requires cast-put-field put-field-requires cast-put-field-2
+    put-field-requires-2 cast-put-field-3 put-field-requires-3 put-level-requires put-times-requires
+    same-length returns)

@@ -1,16 +1,17 @@
--- `writer::put_tasks` meets its contract: before row i the lines of the first i rows are put. Assumes nothing.
+-- `writer::put_tasks` meets its contract: before row i the lines of the first i rows are put.
+-- Assumes nothing.
 use mathlib.Core.Path.{_≡_, sym, _∙_}
 use mathlib.Core.List.{map}
 use Prim.Native.Nat.{_≤_, _<_, _-_}
 use native.Mathlib.Omega.{arith}
 use lib.ListN.{length, take, length-map}
 use borrow.Author.Needs.{needs}
-use Rattle.decimal.specs.Parts.{closed}
+use Rattle.decimal.specs.Lines.{closed}
 use Rattle.decimal.specs.Room.{Put}
 use Rattle.decimal.proofs.Room.{put-length}
 use Rattle.text.specs.Line.{writeLine}
 use Rattle.text.specs.Write.{taskLines}
-use Rattle.writer.proofs.Written.{few-tasks, short-tick, put-next-task, no-tasks}
+use Rattle.writer.proofs.Write.{few-tasks, short-tick, put-next-task, no-tasks}
 use Rattle.writer.proofs.put_tasks.Statement.{statement}
 use Rattle.writer.proofs.put_tasks.Tie as tie
 
@@ -70,15 +71,5 @@ returns c =
 pub put-tasks-spec : {M : Type 1} → statement M
 put-tasks-spec =
     tie.close
-    (tie.spec
-    Inv-loop
-    μ-loop
-    loop-holds
-    mul-x
-    element-copy-out-x
-    put-task-requires
-    add-i
-    loop-less
-    loop-again
-    same-length
-    returns)
+    (tie.spec Inv-loop μ-loop loop-holds mul-x element-copy-out-x put-task-requires add-i loop-less loop-again
+    same-length returns)

@@ -2,7 +2,7 @@
 use mathlib.Core.Path.{ap}
 use mathlib.Core.List.{[], _∷_, _++_}
 use Rattle.decimal.specs.Number.{digits}
-use Rattle.decimal.specs.Parts.{tab}
+use Rattle.decimal.specs.Lines.{tab}
 use Rattle.decimal.proofs.Room.{put-as}
 use borrow.Author.Needs.{needs}
 use Rattle.writer.proofs.put_time.Statement.{statement}

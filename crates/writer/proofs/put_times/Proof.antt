@@ -1,4 +1,5 @@
--- `writer::put_times` meets its contract: two fields, the last one and the line feed. Assumes nothing.
+-- `writer::put_times` meets its contract: two fields, the last one and the line feed. Assumes
+-- nothing.
 use mathlib.Core.Path.{ap}
 use mathlib.Core.List.{[], _∷_}
 use Rattle.decimal.specs.Number.{digits}
@@ -44,11 +45,5 @@ returns c =
 pub put-times-spec : {M : Type 1} → statement M
 put-times-spec =
     tie.close
-    (tie.spec
-    put-time-requires
-    put-time-requires-2
-    in-micros-requires
-    put-number-requires
-    put-byte-requires
-    same-length
-    returns)
+    (tie.spec put-time-requires put-time-requires-2 in-micros-requires put-number-requires put-byte-requires
+    same-length returns)

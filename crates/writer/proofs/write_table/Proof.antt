@@ -1,5 +1,5 @@
--- `writer::write_table` meets its contract: 13 before 12, and the text is made before the lent room changes. Assumes
--- nothing.
+-- `writer::write_table` meets its contract: 13 before 12, and the text is made before the lent room
+-- changes. Assumes nothing.
 use mathlib.Core.Path.{_≡_, sym, _∙_}
 use mathlib.Core.Bool.{true}
 use Prim.Native.Nat.{ℕ, _≤_}
@@ -10,7 +10,7 @@ use borrow.Author.Tests.{not-true, not-false}
 use Rattle.table.specs.Rows.{rowsOf}
 use Rattle.table.specs.Rules.{tableKeeps}
 use Rattle.text.specs.Write.{write}
-use Rattle.writer.proofs.Written.{wrote-unsound, wrote-short, wrote-all, made}
+use Rattle.writer.proofs.Write.{wrote-unsound, wrote-short, wrote-all, made}
 use borrow.Author.Needs.{needs}
 use Rattle.writer.proofs.write_table.Statement.{statement}
 use Rattle.writer.proofs.write_table.Tie as tie
@@ -50,7 +50,8 @@ returns-2 c =
     wrote-short (a .t) (a .room .now) (sound (p .before)) (is-made p .many) (c .if2 .taken)
 
 array-share-prefix-text : tie.Need-array-share-prefix-text
-array-share-prefix-text c = search needs
+array-share-prefix-text c =
+    let p = c .before .before in omega (arith, is-made p .fits, p .put-table .kept .1 .0)
 
 slice-aggregate-put-all : tie.Need-slice-aggregate-put-all
 slice-aggregate-put-all c =
@@ -74,14 +75,5 @@ returns-3 c =
 pub write-table-spec : {M : Type 1} → statement M
 write-table-spec =
     tie.close
-    (tie.spec
-    table-keeps-requires
-    returns
-    slice-aggregate-put-table
-    put-table-requires
-    returns-2
-    array-share-prefix-text
-    slice-aggregate-put-all
-    put-all-requires
-    same-length
-    returns-3)
+    (tie.spec table-keeps-requires returns slice-aggregate-put-table put-table-requires returns-2
+    array-share-prefix-text slice-aggregate-put-all put-all-requires same-length returns-3)

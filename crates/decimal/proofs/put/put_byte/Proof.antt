@@ -1,12 +1,10 @@
 -- `decimal::put::put_byte` meets its contract: the byte is stored at its place, or there is no room for it.
 -- Assumes nothing.
+use native.Mathlib.Omega.{arith}
 use borrow.Author.Needs.{needs}
 use Rattle.decimal.proofs.Room.{put-in, put-past}
 use Rattle.decimal.proofs.put.put_byte.Statement.{statement}
 use Rattle.decimal.proofs.put.put_byte.Tie as tie
-
-returns : tie.Need-returns
-returns c = let a = c .before .args in put-past (a .b) (a .room .now) (a .at) (c .if1 .taken)
 
 slice-write-room : tie.Need-slice-write-room
 slice-write-room c = search needs
@@ -17,8 +15,17 @@ add-result c = search needs
 same-length : tie.Need-same-length
 same-length c = search needs
 
+returns : tie.Need-returns
+returns c = let a = c .before .args in put-in (a .b) (a .room .now) (a .at) (c .if1 .taken)
+
+add-result-2 : tie.Need-add-result-2
+add-result-2 c = search needs
+
 returns-2 : tie.Need-returns-2
-returns-2 c = let a = c .before .args in put-in (a .b) (a .room .now) (a .at) (c .if1 .left)
+returns-2 c = let a = c .before .before .args in put-past (a .b) (a .room .now) (a .at) _ (omega arith) (omega arith)
+
+returns-3 : tie.Need-returns-3
+returns-3 c = let a = c .before .before .args in put-past (a .b) (a .room .now) (a .at) _ (omega arith) (omega arith)
 
 pub put-byte-spec : {M : Type 1} → statement M
-put-byte-spec = tie.close (tie.spec returns slice-write-room add-result same-length returns-2)
+put-byte-spec = tie.close (tie.spec slice-write-room add-result same-length returns add-result-2 returns-2 returns-3)

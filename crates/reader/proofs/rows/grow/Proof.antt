@@ -1,10 +1,10 @@
--- `reader::rows::grow` meets its contract: by the line, the tick, a server or a task is put into the table. Assumes
--- nothing.
+-- `reader::rows::grow` meets its contract: by the line, the tick, a server or a task is put into
+-- the table. Assumes nothing.
 use mathlib.Core.Path.{sym, ap, _∙_, subst}
 use Rattle.table.specs.Rows.{rowsOf, tableOf}
-use Rattle.text.specs.Judge.{grown}
+use Rattle.text.specs.Standing.{grown}
 use Rattle.reader.specs.Inner.{Grows}
-use Rattle.reader.proofs.Growing.{put-tick, put-none}
+use Rattle.reader.proofs.Inner.{put-tick, put-none}
 use borrow.Author.Needs.{needs}
 use Rattle.reader.proofs.rows.grow.Statement.{statement}
 use Rattle.reader.proofs.rows.grow.Tie as tie
@@ -65,14 +65,5 @@ returns-4 c =
 pub grow-spec : {M : Type 1} → statement M
 grow-spec =
     tie.close
-    (tie.spec
-    enum-known-l
-    enum-known-l-2
-    with-server-requires
-    enum-known-l-3
-    with-task-requires
-    enum-told
-    returns
-    returns-2
-    returns-3
-    returns-4)
+    (tie.spec enum-known-l enum-known-l-2 with-server-requires enum-known-l-3 with-task-requires enum-told
+    returns returns-2 returns-3 returns-4)

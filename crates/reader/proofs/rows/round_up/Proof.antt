@@ -1,30 +1,44 @@
--- `reader::rows::round_up` meets its contract, and no sum passes 64 bits: where something is left over, the quotient is
--- below u. Assumes nothing.
+-- `reader::rows::round_up` meets its contract: the quotient, or one more where something is left
+-- over. Assumes nothing.
+use mathlib.Core.Path.{_≡_}
+use Prim.Native.Nat.{_+_, _/_}
 use native.Mathlib.Omega.{arith}
-use Rattle.reader.proofs.RoundedUp.{up-even, up-odd, odd-below}
 use borrow.Author.Needs.{needs}
+use Rattle.laws.specs.RoundUp.{up}
+use Rattle.reader.proofs.RoundUp.{up-even, up-odd}
 use Rattle.reader.proofs.rows.round_up.Statement.{statement}
 use Rattle.reader.proofs.rows.round_up.Tie as tie
+
+even : (c : tie.Then1) → let a = c .before .before .before .before .before .args in a .u .0 / a .tick .0 ≡ up (a .u .0) (a .tick .0)
+even c =
+    let start = c .before .before .before .before .before in
+    up-even (start .args .u .0) (start .args .tick .0) (start .pre .0) (c .if1 .taken)
+
+odd : (c : tie.Else1) → let a = c .before .before .before .before .before .args in a .u .0 / a .tick .0 + 1 ≡ up (a .u .0) (a .tick .0)
+odd c =
+    let start = c .before .before .before .before .before in
+    up-odd (start .args .u .0) (start .args .tick .0) (start .pre .0) (c .if1 .left)
+
+div-n : tie.Need-div-n
+div-n c = search needs
 
 rem-if1 : tie.Need-rem-if1
 rem-if1 c = search needs
 
-div-result : tie.Need-div-result
-div-result c = search needs
+cast-t6 : tie.Need-cast-t6
+cast-t6 c = record { fits = omega (arith, even c, c .before .before .before .before .before .pre .1) }
 
 returns : tie.Need-returns
-returns c = up-even (c .before .args .u) (c .before .args .tick) (c .before .pre) (c .if1 .taken)
+returns c = rw (even c)
 
-div-result-2 : tie.Need-div-result-2
-div-result-2 c = search needs
+cast-t7 : tie.Need-cast-t7
+cast-t7 c = record { fits = omega (arith, odd c, c .before .before .before .before .before .pre .1) }
 
-add-result : tie.Need-add-result
-add-result c =
-    let start = c .before in
-    record { fits = omega (arith, odd-below (start .args .u) (start .args .tick) (start .pre) (c .if1 .left)) }
+add-t8 : tie.Need-add-t8
+add-t8 c = record { fits = omega (arith, odd c, c .before .before .before .before .before .pre .1) }
 
 returns-2 : tie.Need-returns-2
-returns-2 c = up-odd (c .before .args .u) (c .before .args .tick) (c .before .pre) (c .if1 .left)
+returns-2 c = rw (odd c)
 
 pub round-up-spec : {M : Type 1} → statement M
-round-up-spec = tie.close (tie.spec rem-if1 div-result returns div-result-2 add-result returns-2)
+round-up-spec = tie.close (tie.spec div-n rem-if1 cast-t6 returns cast-t7 add-t8 returns-2)

@@ -1,61 +1,43 @@
--- `reader::rows::server_row` meets its contract: every number is within bounds that its row holds. Assumes nothing.
+-- `reader::rows::server_row` meets its contract: every number is within bounds that its row holds.
+-- Assumes nothing.
 use native.Mathlib.Omega.{arith}
-use Rattle.reader.proofs.Judging.{ServerFits, server-fits}
-use borrow.Author.Needs.{needs}
+use Rattle.reader.proofs.Standing.{ServerFits, server-fits}
 use Rattle.reader.proofs.rows.server_row.Statement.{statement}
 use Rattle.reader.proofs.rows.server_row.Tie as tie
 
-holds : (c : tie.Start) → ServerFits (c .args .tick) (c .args .s)
-holds c = server-fits (c .args .rows) (c .args .tick) (c .args .s) (c .pre .0) (c .pre .1)
+holds : (c : tie.Start) → ServerFits (c .args .tick .0) (c .args .s)
+holds c = server-fits (c .args .rows) (c .args .tick .0) (c .args .s) (c .pre .1)
 
-div-n : tie.Need-div-n
-div-n c = search needs
+in-ticks-requires : tie.Need-in-ticks-requires
+in-ticks-requires c κs = let start = c .before in (start .pre .0, holds start .n)
 
-div-d1 : tie.Need-div-d1
-div-d1 c = search needs
+in-ticks-requires-2 : tie.Need-in-ticks-requires-2
+in-ticks-requires-2 c κs = let start = c .before .before in (start .pre .0, holds start .d1)
 
-div-d2 : tie.Need-div-d2
-div-d2 c = search needs
+in-ticks-requires-3 : tie.Need-in-ticks-requires-3
+in-ticks-requires-3 c κs = let start = c .before .before .before in (start .pre .0, holds start .d2)
 
-div-period : tie.Need-div-period
-div-period c = search needs
+in-ticks-requires-4 : tie.Need-in-ticks-requires-4
+in-ticks-requires-4 c κs = let start = c .before .before .before .before in (start .pre .0, holds start .period)
 
 cast-t11 : tie.Need-cast-t11
-cast-t11 c = record { fits = omega (arith, holds (c .before .before .before .before .before) .n) }
+cast-t11 c = record { fits = omega (arith, holds (c .before .before .before .before .before .before) .partition) }
 
-cast-t13 : tie.Need-cast-t13
-cast-t13 c = record { fits = omega (arith, holds (c .before .before .before .before .before) .d1) }
-
-cast-t15 : tie.Need-cast-t15
-cast-t15 c = record { fits = omega (arith, holds (c .before .before .before .before .before) .d2) }
-
-cast-t17 : tie.Need-cast-t17
-cast-t17 c =
-    record { fits = omega (arith, holds (c .before .before .before .before .before .before) .partition) }
-
-cast-t18 : tie.Need-cast-t18
-cast-t18 c =
-    record { fits = omega (arith, holds (c .before .before .before .before .before .before .before) .priority) }
-
-cast-t11-2 : tie.Need-cast-t11-2
-cast-t11-2 c =
-    record { fits = omega (arith, holds (c .before .before .before .before .before .before .before) .period) }
+cast-t12 : tie.Need-cast-t12
+cast-t12 c = record { fits = omega (arith, holds (c .before .before .before .before .before .before .before) .priority) }
 
 returns : tie.Need-returns
-returns c = search needs
+returns c =
+    let p = c .before .before in
+    rw (
+      p .before .before .before .in-ticks .ensures,
+      p .before .before .in-ticks2 .ensures,
+      p .before .in-ticks3 .ensures,
+      p .in-ticks4 .ensures,
+    )
 
 pub server-row-spec : {M : Type 1} → statement M
 server-row-spec =
     tie.close
-    (tie.spec
-    div-n
-    div-d1
-    div-d2
-    div-period
-    cast-t11
-    cast-t13
-    cast-t15
-    cast-t17
-    cast-t18
-    cast-t11-2
+    (tie.spec in-ticks-requires in-ticks-requires-2 in-ticks-requires-3 in-ticks-requires-4 cast-t11 cast-t12
     returns)

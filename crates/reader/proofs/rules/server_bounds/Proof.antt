@@ -1,7 +1,7 @@
--- `reader::rules::server_bounds` meets its contract: its tests are those of `serverBounds`, in their order. Assumes
--- nothing.
+-- `reader::rules::server_bounds` meets its contract: its tests are those of `serverBounds`, in
+-- their order. Assumes nothing.
 use mathlib.Core.Path.{refl, _∙_}
-use Rattle.text.specs.Judge.{serverBounds}
+use Rattle.text.specs.Standing.{serverBounds}
 use borrow.Author.Needs.{needs}
 use Rattle.reader.proofs.rules.server_bounds.Statement.{statement}
 use Rattle.reader.proofs.rules.server_bounds.Tie as tie
@@ -28,18 +28,12 @@ returns : tie.Need-returns
 unfolding serverBounds
 returns c =
     let t = c .before .before .before .before .before .before in
-    let p = t .before in
+    let p = t .before .before in
     c .all-of .ensures
     ∙ rw (p .before .is-within .ensures, p .is-within2 .ensures, t .is-within3 .ensures)
 
 pub server-bounds-spec : {M : Type 1} → statement M
 server-bounds-spec =
     tie.close
-    (tie.spec
-    is-within-requires
-    is-within-requires-2
-    mul-is-within
-    is-within-requires-3
-    slice-aggregate-all-of
-    all-of-requires
-    returns)
+    (tie.spec is-within-requires is-within-requires-2 mul-is-within is-within-requires-3
+    slice-aggregate-all-of all-of-requires returns)

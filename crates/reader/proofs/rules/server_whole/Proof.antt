@@ -1,7 +1,7 @@
--- `reader::rules::server_whole` meets its contract: its tests are those of `serverWhole`, in their order. Assumes
--- nothing.
+-- `reader::rules::server_whole` meets its contract: its tests are those of `serverWhole`, in their
+-- order. Assumes nothing.
 use mathlib.Core.Path.{refl}
-use Rattle.text.specs.Judge.{serverWhole}
+use Rattle.text.specs.Standing.{serverWhole}
 use borrow.Author.Needs.{needs}
 use Rattle.reader.proofs.rules.server_whole.Statement.{statement}
 use Rattle.reader.proofs.rules.server_whole.Tie as tie

@@ -1,23 +1,18 @@
--- `reader::rules::task_bounds` meets its contract: its tests are those of `taskBounds`, in their order. Assumes
--- nothing.
+-- `reader::rules::task_bounds` meets its contract: its tests are those of `taskBounds`, in their
+-- order, the limits compared in microseconds. Assumes nothing.
 use mathlib.Core.Path.{refl, _∙_}
-use Rattle.text.specs.Judge.{taskBounds}
-use Rattle.table.specs.Rules.{taskKeeps}
 use borrow.Author.Needs.{needs}
+use Rattle.table.specs.Rules.{taskKeeps}
+use Rattle.text.specs.Standing.{taskBounds}
+use Rattle.text.proofs.Bounds.{limit-exactly}
 use Rattle.reader.proofs.rules.task_bounds.Statement.{statement}
 use Rattle.reader.proofs.rules.task_bounds.Tie as tie
 
 is-within-requires : tie.Need-is-within-requires
 is-within-requires c κs = tt
 
-round-up-requires : tie.Need-round-up-requires
-round-up-requires c κs = search needs
-
-round-up-requires-2 : tie.Need-round-up-requires-2
-round-up-requires-2 c κs = search needs
-
-round-up-requires-3 : tie.Need-round-up-requires-3
-round-up-requires-3 c κs = search needs
+mul-most : tie.Need-mul-most
+mul-most c = search needs
 
 is-within-requires-2 : tie.Need-is-within-requires-2
 is-within-requires-2 c κs = tt
@@ -40,31 +35,22 @@ returns c =
     let z = c .before .before in
     let y = z .before in
     let x = y .before in
-    let r = x .before in
-    let q = r .before in
-    let p = q .before in
+    let p = x .before .before .before in
+    let a = p .before .args in
+    let h = p .before .pre .0 in
     c .all-of .ensures
     ∙ rw (
-      p .before .before .is-within .ensures,
+      p .is-within .ensures,
       x .is-within2 .ensures,
       y .is-within3 .ensures,
       z .is-within4 .ensures,
-      p .round-up .ensures,
-      q .round-up2 .ensures,
-      r .round-up3 .ensures,
+      limit-exactly (a .tick .0) (a .k .limit .n .0) h,
+      limit-exactly (a .tick .0) (a .k .limit .d1 .0) h,
+      limit-exactly (a .tick .0) (a .k .limit .d2 .0) h,
     )
 
 pub task-bounds-spec : {M : Type 1} → statement M
 task-bounds-spec =
     tie.close
-    (tie.spec
-    is-within-requires
-    round-up-requires
-    round-up-requires-2
-    round-up-requires-3
-    is-within-requires-2
-    is-within-requires-3
-    is-within-requires-4
-    slice-aggregate-all-of
-    all-of-requires
-    returns)
+    (tie.spec is-within-requires mul-most is-within-requires-2 is-within-requires-3 is-within-requires-4
+    slice-aggregate-all-of all-of-requires returns)

@@ -1,0 +1,222 @@
+-- The table that is being read: it holds the rows above a line, and with that line's row it holds
+-- those above the next. Assumes nothing.
+pub mod Fields
+use mathlib.Core.Path.{_≡_, refl, sym, ap, _∙_}
+use mathlib.Core.Bool.{true, false}
+use mathlib.Core.List.{List, [], _∷_, _++_, append-assoc}
+use mathlib.Core.Logic.{inl, inr}
+use Prim.Native.Nat.{ℕ, suc, _+_, _-_, _≤_, _<_}
+use native.Mathlib.Omega.{arith}
+use native.Mathlib.Nat.{pos-of-ne-zero}
+use lib.Dec.{ltb}
+use lib.ListN.{length, set, replicate, length-append}
+use lib.Seq.{set-append-seam}
+use borrow.Author.Tests.{ltb-true, eqb-true}
+use Rattle.laws.specs.Choice.{every}
+use Rattle.laws.proofs.Choice.{clash, and-left, within-low, within-high, le-or-lt}
+use Rattle.units.specs.declared.Micros.{Micros}
+use Rattle.table.specs.declared.Server.{Server}
+use Rattle.table.specs.declared.Task.{Task}
+use Rattle.table.specs.declared.Table.{Table}
+use Rattle.table.specs.Rows.{Rows, noRows, noServer, noTask, rowsOf, tableOf, padded}
+use Rattle.table.specs.Rules.{tickKeeps}
+use Rattle.text.specs.declared.ServerLine.{ServerLine}
+use Rattle.text.specs.declared.TaskLine.{TaskLine}
+use Rattle.text.specs.declared.Line.{Line}
+use Rattle.text.specs.declared.Line.the-variants.{OfTick, OfServer, OfTask, Malformed}
+use Rattle.table.specs.declared.Standing.the-variants.{Kept}
+use Rattle.text.specs.Standing.{isNil, placed, bounds, fault, serverOf, limitsOf, taskOf, standing, grown}
+use Rattle.reader.specs.Inner.{Above, Grows}
+use Rattle.text.proofs.Bounds.{server-within, task-within}
+use Rattle.table.proofs.Rules.{rows-there}
+use Rattle.text.proofs.Standing.{not-nil, Keeps, standing-keeps}
+use Rattle.text.proofs.RoundTrip.{table-rows}
+
+-- a row put where there is room
+padded-more : {A : Type 0} (n : ℕ) (z x : A) (xs : List A) → length xs < n →
+    set (padded n z xs) (length xs) x ≡ padded n z (xs ++ (x ∷ []))
+padded-more n z x xs h =
+    go
+    (n - (length xs + 1))
+    (n - length (xs ++ (x ∷ [])))
+    (n - length xs)
+    (omega arith)
+    (omega (arith, length-append xs (x ∷ [])))
+  where
+    go : (r q p : ℕ) → p ≡ suc r → q ≡ r → set (xs ++ replicate p z) (length xs) x ≡ (xs ++ (x ∷ [])) ++ replicate q z
+    go r q p e f = rw (e, f, append-assoc xs (x ∷ []) (replicate r z)) (set-append-seam xs z (replicate r z) x)
+
+-- a table that holds its rows and nothing else: its counts are theirs
+module _ (t : Table) (whole : t ≡ tableOf (rowsOf t)) where
+  pub servers-count : length (rowsOf t .servers) ≡ t .nservers
+  unfolding tableOf
+  servers-count = sym (ap (λ (x : Table). x .nservers) whole)
+
+  pub tasks-count : length (rowsOf t .tasks) ≡ t .ntasks
+  unfolding tableOf
+  tasks-count = sym (ap (λ (x : Table). x .ntasks) whole)
+
+  none : {A : Type 0} (xs : List A) → length xs ≤ 0 → isNil xs ≡ true
+  none [] h = refl
+  none (x ∷ xs) h = absurd (omega arith)
+
+  pub no-server : t .nservers ≤ 0 → isNil (rowsOf t .servers) ≡ true
+  no-server h = none (rowsOf t .servers) (omega (arith, servers-count))
+
+  pub a-server : (t .nservers ≡ 0 → ⊥) → isNil (rowsOf t .servers) ≡ false
+  a-server h = not-nil (rowsOf t .servers) (omega (arith, servers-count, pos-of-ne-zero h))
+
+  pub no-task : t .ntasks ≤ 0 → isNil (rowsOf t .tasks) ≡ true
+  no-task h = none (rowsOf t .tasks) (omega (arith, tasks-count))
+
+  pub a-task : 0 < t .ntasks → isNil (rowsOf t .tasks) ≡ false
+  a-task h = not-nil (rowsOf t .tasks) (omega (arith, tasks-count))
+
+-- below the first line, and wherever a server stands above, the tick is known
+module _ (n : ℕ) (t : Table) (r : Above n t) where
+  pub tick-low : 1 < n → 0 < t .tick .0
+  tick-low h = within-low 1 10000 (t .tick .0) (r .below h)
+
+  pub tick-high : 1 < n → t .tick .0 ≤ 10000
+  tick-high h = within-high 1 10000 (t .tick .0) (r .below h)
+
+  pub begun : (t .nservers ≡ 0 → ⊥) → 1 < n
+  begun h = elim (le-or-lt n 1) [ inl k ↦ absurd (h (r .first k)) | inr k ↦ k ]
+
+-- a line's row put into the table
+module _ (a : Rows) where
+  server-put : (s : ServerLine) → length (a .servers) < 32 →
+      (record {
+        tick = a .tick;
+        nservers = length (a .servers) + 1;
+        ntasks = length (a .tasks);
+        servers = set (padded 32 noServer (a .servers)) (length (a .servers)) (serverOf (a .tick .0) s);
+        tasks = padded 64 noTask (a .tasks);
+      }) ≡ tableOf (grown a (OfServer s))
+  unfolding tableOf grown
+  server-put s h =
+      rw (
+        padded-more 32 noServer (serverOf (a .tick .0) s) (a .servers) h,
+        length-append (a .servers) (serverOf (a .tick .0) s ∷ []),
+      )
+
+  task-put : (k : TaskLine) → length (a .tasks) < 64 →
+      (record {
+        tick = a .tick;
+        nservers = length (a .servers);
+        ntasks = length (a .tasks) + 1;
+        servers = padded 32 noServer (a .servers);
+        tasks = set (padded 64 noTask (a .tasks)) (length (a .tasks)) (taskOf (a .tick .0) k);
+      }) ≡ tableOf (grown a (OfTask k))
+  unfolding tableOf grown
+  task-put k h =
+      rw (
+        padded-more 64 noTask (taskOf (a .tick .0) k) (a .tasks) h,
+        length-append (a .tasks) (taskOf (a .tick .0) k ∷ []),
+      )
+
+module _ (t : Table) (a : Rows) (whole : t ≡ tableOf a) where
+  pub put-tick : (u : Micros) →
+      (record { tick = u; nservers = t .nservers; ntasks = t .ntasks; servers = t .servers; tasks = t .tasks })
+      ≡ tableOf (grown a (OfTick u))
+  unfolding tableOf grown
+  put-tick u = rw whole
+
+  pub put-server : (s : ServerLine) (row : Server) → t .nservers < 32 → row ≡ serverOf (t .tick .0) s →
+      (record {
+        tick = t .tick;
+        nservers = t .nservers + 1;
+        ntasks = t .ntasks;
+        servers = set (t .servers) (t .nservers) row;
+        tasks = t .tasks;
+      }) ≡ tableOf (grown a (OfServer s))
+  unfolding tableOf
+  put-server s row h e = rw (e, whole) (server-put a s (rw whole at h))
+
+  pub put-task : (k : TaskLine) (row : Task) → t .ntasks < 64 → row ≡ taskOf (t .tick .0) k →
+      (record {
+        tick = t .tick;
+        nservers = t .nservers;
+        ntasks = t .ntasks + 1;
+        servers = t .servers;
+        tasks = set (t .tasks) (t .ntasks) row;
+      }) ≡ tableOf (grown a (OfTask k))
+  unfolding tableOf
+  put-task k row h e = rw (e, whole) (task-put a k (rw whole at h))
+
+  pub put-none : t ≡ tableOf (grown a Malformed)
+  unfolding grown
+  put-none = whole
+
+-- a task line is kept only below a server line
+under : (n : ℕ) (t : Table) (k : TaskLine) → Above n t → Keeps n (rowsOf t) (OfTask k) → 1 < n
+unfolding fault
+under n t k r p =
+    let h = rows-there (rowsOf t .servers) (k .home) (k .degraded) (limitsOf (t .tick .0) (k .limit)) (p .fits) in
+    begun n t r (λ z. omega (arith, h .0, servers-count t (r .whole)))
+
+-- a line that is kept has a row with room
+pub grows : (n : ℕ) (t : Table) (l : Line) → Above n t → standing n (rowsOf t) l ≡ Kept → Grows t l
+unfolding placed bounds fault
+grows n t (OfTick u) r e = r .whole
+grows n t (OfServer s) r e =
+    let p = standing-keeps n (rowsOf t) (OfServer s) e in
+    let h = ltb-true 1 n (and-left (ltb 1 n) (isNil (rowsOf t .tasks)) (p .stands)) in
+    (r .whole, tick-low n t r h, rw (servers-count t (r .whole)) at (p .bounded))
+grows n t (OfTask k) r e =
+    let p = standing-keeps n (rowsOf t) (OfTask k) e in
+    let h = rows-there (rowsOf t .servers) (k .home) (k .degraded) (limitsOf (t .tick .0) (k .limit)) (p .fits) in (
+      r .whole,
+      tick-low n t r (under n t k r p),
+      rw (tasks-count t (r .whole)) at (p .bounded),
+      omega (arith, h .0, servers-count t (r .whole), r .servers),
+      omega (arith, h .1, servers-count t (r .whole), r .servers),
+    )
+grows n t Malformed r e = r .whole
+
+-- and the table with it stands before the next line
+above-rows : (n : ℕ) (a : Rows) → length (a .servers) ≤ 32 → length (a .tasks) ≤ 64 →
+    (n ≤ 1 → length (a .servers) ≡ 0) → (1 < n → tickKeeps (a .tick .0) ≡ true) → Above n (tableOf a)
+unfolding tableOf
+above-rows n a s k f b =
+    record { whole = ap tableOf (sym (table-rows a)); servers = s; tasks = k; first = f; below = b }
+
+pub above-first : Above 1 (tableOf noRows)
+above-first = above-rows 1 noRows (omega arith) (omega arith) (λ h. refl) (λ h. absurd (omega arith))
+
+pub above-next : (n : ℕ) (t : Table) (l : Line) → Above n t → standing n (rowsOf t) l ≡ Kept →
+    Above (n + 1) (tableOf (grown (rowsOf t) l))
+unfolding placed bounds grown every
+above-next n t (OfTick u) r e =
+    let p = standing-keeps n (rowsOf t) (OfTick u) e in
+    let o = eqb-true n 1 (p .stands) in
+    above-rows
+    (n + 1)
+    (grown (rowsOf t) (OfTick u))
+    (omega (arith, servers-count t (r .whole), r .servers))
+    (omega (arith, tasks-count t (r .whole), r .tasks))
+    (λ h. servers-count t (r .whole) ∙ r .first (omega arith))
+    (λ h. and-left (tickKeeps (u .0)) true (p .bounded))
+above-next n t (OfServer s) r e =
+    let p = standing-keeps n (rowsOf t) (OfServer s) e in
+    let h = ltb-true 1 n (and-left (ltb 1 n) (isNil (rowsOf t .tasks)) (p .stands)) in
+    let w = server-within (length (rowsOf t .servers)) (t .tick .0) s (p .bounded) in
+    above-rows
+    (n + 1)
+    (grown (rowsOf t) (OfServer s))
+    (omega (arith, w .room, length-append (rowsOf t .servers) (serverOf (t .tick .0) s ∷ [])))
+    (omega (arith, tasks-count t (r .whole), r .tasks))
+    (λ g. absurd (omega arith))
+    (λ g. r .below h)
+above-next n t (OfTask k) r e =
+    let p = standing-keeps n (rowsOf t) (OfTask k) e in
+    let h = under n t k r p in
+    let w = task-within (length (rowsOf t .tasks)) (t .tick .0) k (tick-low n t r h) (p .bounded) in
+    above-rows
+    (n + 1)
+    (grown (rowsOf t) (OfTask k))
+    (omega (arith, servers-count t (r .whole), r .servers))
+    (omega (arith, w .room, length-append (rowsOf t .tasks) (taskOf (t .tick .0) k ∷ [])))
+    (λ g. absurd (omega arith))
+    (λ g. r .below h)
+above-next n t Malformed r e = absurd (clash false (standing-keeps n (rowsOf t) Malformed e .stands) refl)

@@ -1,0 +1,45 @@
+-- `reader::fields::read_kind` meets its contract: the two words are asked for in turn. Assumes
+-- nothing.
+use mathlib.Core.Path.{refl, sym, _∙_}
+use Rattle.text.specs.Words.{timedWord, eventWord}
+use Rattle.reader.proofs.Inner.Fields.{kind-timed, kind-event, kind-none}
+use Rattle.reader.proofs.fields.read_kind.Statement.{statement}
+use Rattle.reader.proofs.fields.read_kind.Tie as tie
+
+slice-aggregate-is-same : tie.Need-slice-aggregate-is-same
+slice-aggregate-is-same c = refl
+
+is-same-requires : tie.Need-is-same-requires
+is-same-requires c κs = tt
+
+returns : tie.Need-returns
+unfolding timedWord eventWord
+returns c =
+    kind-timed (c .before .before .before .before .args .s .now)
+    (sym (c .before .is-same .ensures) ∙ c .if1 .taken)
+
+slice-aggregate-is-same-2 : tie.Need-slice-aggregate-is-same-2
+slice-aggregate-is-same-2 c = refl
+
+is-same-requires-2 : tie.Need-is-same-requires-2
+is-same-requires-2 c κs = tt
+
+returns-2 : tie.Need-returns-2
+unfolding timedWord eventWord
+returns-2 c =
+    kind-event (c .before .before .before .before .before .before .before .args .s .now)
+    (sym (c .before .before .before .before .is-same .ensures) ∙ c .before .before .before .if1 .left)
+    (sym (c .before .is-same2 .ensures) ∙ c .if2 .taken)
+
+returns-3 : tie.Need-returns-3
+unfolding timedWord eventWord
+returns-3 c =
+    kind-none (c .before .before .before .before .before .before .before .args .s .now)
+    (sym (c .before .before .before .before .is-same .ensures) ∙ c .before .before .before .if1 .left)
+    (sym (c .before .is-same2 .ensures) ∙ c .if2 .left)
+
+pub read-kind-spec : {M : Type 1} → statement M
+read-kind-spec =
+    tie.close
+    (tie.spec slice-aggregate-is-same is-same-requires returns slice-aggregate-is-same-2 is-same-requires-2
+    returns-2 returns-3)

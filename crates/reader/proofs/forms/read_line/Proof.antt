@@ -1,0 +1,54 @@
+-- `reader::forms::read_line` meets its contract: the leading word ends before the first tab, and
+-- the fields stand after it. Assumes nothing.
+use mathlib.Core.Path.{sym, _∙_}
+use Prim.Native.Nat.{_<_}
+use native.Mathlib.Omega.{arith}
+use borrow.Author.Needs.{needs}
+use lib.Arith.{lt-of-le-ne}
+use lib.ListN.{length}
+use lib.Seq.{length-take-le}
+use Rattle.reader.proofs.Line.{line-alone, line-parts}
+use Rattle.reader.proofs.forms.read_line.Statement.{statement}
+use Rattle.reader.proofs.forms.read_line.Tie as tie
+
+find-requires : tie.Need-find-requires
+find-requires c κs = search needs
+
+returns : tie.Need-returns
+returns c =
+    let f = c .before .find in
+    line-alone (c .before .before .before .args .l .now) (f .result) (f .ensures .0) (omega arith)
+
+slice-aggregate-formed-line : tie.Need-slice-aggregate-formed-line
+slice-aggregate-formed-line c =
+    let f = c .before .before in
+    sym (length-take-le (f .find .result) (f .before .before .args .l .now) (f .find .ensures .1))
+
+add-formed-line : tie.Need-add-formed-line
+add-formed-line c = search needs
+
+sub-formed-line : tie.Need-sub-formed-line
+sub-formed-line c = search needs
+
+part-formed-line-start : tie.Need-part-formed-line-start
+part-formed-line-start c = search needs
+
+part-formed-line-end : tie.Need-part-formed-line-end
+part-formed-line-end c = search needs
+
+formed-line-requires : tie.Need-formed-line-requires
+formed-line-requires c κs = tt
+
+returns-2 : tie.Need-returns-2
+returns-2 c =
+    let e = c .before .before .before in
+    let f = e .before .find in
+    let l = e .before .before .before .args .l .now in
+    let m : f .result < length l = lt-of-le-ne (f .ensures .1) (e .if1 .left) in
+    c .formed-line .ensures ∙ line-parts l (f .result) (f .ensures .0) m
+
+pub read-line-spec : {M : Type 1} → statement M
+read-line-spec =
+    tie.close
+    (tie.spec find-requires returns slice-aggregate-formed-line add-formed-line sub-formed-line
+    part-formed-line-start part-formed-line-end formed-line-requires returns-2)

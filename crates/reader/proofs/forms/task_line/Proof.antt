@@ -1,0 +1,78 @@
+-- `reader::forms::task_line` meets its contract: nothing is wrong with the fields exactly if they
+-- have the form. Assumes nothing.
+use mathlib.Core.Path.{_≡_, refl, sym, _∙_}
+use mathlib.Core.Bool.{true}
+use mathlib.Core.List.{List}
+use Prim.Native.Nat.{ℕ}
+use native.Mathlib.Omega.{arith}
+use borrow.Author.Needs.{needs}
+use Rattle.decimal.specs.Lines.{tab, split}
+use Rattle.decimal.proofs.Lines.{split-some}
+use Rattle.text.specs.Line.{taskForm, has}
+use Rattle.reader.proofs.Line.{form-not, form-has, task-read}
+use Rattle.reader.proofs.forms.task_line.Statement.{statement}
+use Rattle.reader.proofs.forms.task_line.Tie as tie
+
+abbrev fields : tie.After-read-fields → List (List ℕ)
+fields c = split tab (c .before .before .before .args .rest .now)
+
+slice-aggregate-read-fields : tie.Need-slice-aggregate-read-fields
+slice-aggregate-read-fields c = refl
+
+read-fields-requires : tie.Need-read-fields-requires
+read-fields-requires c κs = omega arith
+
+is-wrong-requires : tie.Need-is-wrong-requires
+is-wrong-requires c κs = tt
+
+returns : tie.Need-returns
+unfolding taskForm
+returns c =
+    let r = c .before .before in
+    form-not taskForm (fields r) (r .read-fields .result) (split-some tab (r .before .before .before .args .rest .now))
+    (r .read-fields .ensures) _ (sym (c .before .is-wrong .ensures) ∙ c .if1 .taken)
+
+has-form : (c : tie.Else1) → has taskForm (fields (c .before .before)) ≡ true
+unfolding taskForm
+has-form c =
+    let r = c .before .before in
+    form-has taskForm (fields r) (r .read-fields .result) (split-some tab (r .before .before .before .args .rest .now))
+    (r .read-fields .ensures) (sym (c .before .is-wrong .ensures) ∙ c .if1 .left)
+
+array-read-level-at : tie.Need-array-read-level-at
+array-read-level-at c = search needs
+
+level-at-requires : tie.Need-level-at-requires
+level-at-requires c κs = search needs
+
+array-read-t13 : tie.Need-array-read-t13
+array-read-t13 c = search needs
+
+array-read-t19 : tie.Need-array-read-t19
+array-read-t19 c = search needs
+
+array-read-t23 : tie.Need-array-read-t23
+array-read-t23 c = search needs
+
+array-read-t13-2 : tie.Need-array-read-t13-2
+array-read-t13-2 c = search needs
+
+array-read-t19-2 : tie.Need-array-read-t19-2
+array-read-t19-2 c = search needs
+
+array-read-t23-2 : tie.Need-array-read-t23-2
+array-read-t23-2 c = search needs
+
+returns-2 : tie.Need-returns-2
+unfolding taskForm
+returns-2 c =
+    let e = c .before .before in
+    task-read (fields (e .before .before)) (e .before .before .read-fields .result) (c .level-at .result) (c .level-at .ensures)
+    (e .before .before .read-fields .ensures) (has-form e)
+
+pub task-line-spec : {M : Type 1} → statement M
+task-line-spec =
+    tie.close
+    (tie.spec slice-aggregate-read-fields read-fields-requires is-wrong-requires returns array-read-level-at
+    level-at-requires array-read-t13 array-read-t19 array-read-t23 array-read-t13-2 array-read-t19-2
+    array-read-t23-2 returns-2)
