@@ -1,7 +1,8 @@
--- Small runs on the table of document 01's example, worked out by hand from its words, and computed. The laws say more
--- than these; but a slip in a definition shows here as an equation that is false. Assumes nothing.
+-- Small runs on the table of document 01's example, worked out by hand from its words, and
+-- computed. The laws say more than these; but a slip in a definition shows here as an equation that
+-- is false. Assumes nothing.
 use mathlib.Core.Path.{_≡_, refl}
-use mathlib.Core.Bool.{Bool, true, false}
+use mathlib.Core.Bool.{true, false}
 use mathlib.Core.List.{List, [], _∷_, _++_, map}
 use Prim.Native.Nat.{ℕ}
 use lib.ListN.{set, replicate}
@@ -14,10 +15,9 @@ use Rattle.table.specs.declared.Mode.{Mode}
 use Rattle.table.specs.declared.Mode.the-variants.{N, D1, D2}
 use Rattle.table.specs.declared.Table.{Table}
 use Rattle.table.specs.Rows.{tableOf}
-use Rattle.table.specs.Rules.{tableKeeps, keeps, serverKeeps, taskKeeps, taskFits, differ}
+use Rattle.table.specs.Rules.{tableKeeps, keeps, serverKeeps, taskKeeps, taskFault, taskStands, differ}
 use Rattle.run.specs.declared.Last.the-variants.{Job}
 use Rattle.run.specs.declared.State.{State}
-use Rattle.run.specs.declared.Run.{Run}
 use Rattle.run.specs.declared.Turn.{Turn}
 use Rattle.run.specs.declared.Turn.the-variants.{Run as Ran, Empty, Idle}
 use Rattle.run.specs.declared.Left.{Left}
@@ -25,12 +25,14 @@ use Rattle.run.specs.declared.Left.the-variants.{Nobody, Done, Cut}
 use Rattle.run.specs.declared.Event.{Event}
 use Rattle.run.specs.declared.Event.the-variants.{Release, Tick}
 use Rattle.run.specs.declared.Answer.{Answer}
-use Rattle.run.specs.declared.Answer.the-variants.{Started, Released, Ticked, No}
-use Rattle.run.specs.State.{usedAt, elapsedAt, waitingAt, runsAt, waits, someWaits, withMode, withBudgets, withQueues, withLast, withCounts, fresh}
+use Rattle.run.specs.declared.Answer.the-variants.{Released, Ticked, No}
+use Rattle.run.specs.State.{usedAt, elapsedAt, waitingAt, runsAt, waits, someWaits, withMode, withBudgets, withQueues}
+use Rattle.run.specs.State.{withLast, withCounts, fresh}
 use Rattle.run.specs.Sound.{soundServer, soundFront, soundTask, soundLast, soundCounts, soundState, sound}
 use Rattle.run.specs.Answers.{noOf}
 use Rattle.run.specs.Release.{freshRun, releaseOf}
-use Rattle.run.specs.Tick.{judge, step1, drops, discards, step2, step3, step4, settle, able, highestAble, highestTask, choose, advance, tickTaken, tickOf}
+use Rattle.run.specs.Tick.{judge, step1, drops, discards, step2, step3, step4, settle, able, highestAble, highestTask}
+use Rattle.run.specs.Tick.{choose, advance, tickTaken, tickOf}
 use Rattle.run.specs.Events.{eventOf, after, answers}
 use Rattle.run.specs.Example.{byMode, server, task, rows, example}
 
@@ -50,17 +52,17 @@ stateAfter es = after (freshRun example) es .state
 
 -- what a taken tick says, as a line of the night has it
 abbrev says : ℕ → Mode → Turn → Left → ℕ → Answer
-says n m u l d = Ticked (record { tick = n; mode = m; turn = u; left = l; discarded = d })
+says n m u l d = Ticked (record { tick = record { 0 = n }; mode = m; turn = u; left = l; discarded = d })
 
 -- the turns that some answers tell
 unfoldable pub turns : List Answer → List Turn
 turns [] = []
-turns (Started ∷ rest) = turns rest
 turns (Released k ∷ rest) = turns rest
 turns (Ticked a ∷ rest) = a .turn ∷ turns rest
 turns (No why ∷ rest) = turns rest
 
--- Two timed servers of period 4 and two tasks, the higher in row 1 each time. Row 0 has capacity 1, row 1 has 2.
+-- Two timed servers of period 4 and two tasks, the higher in row 1 each time. Row 0 has capacity 1,
+-- row 1 has 2.
 unfoldable pub crossed : Table
 crossed =
     tableOf
@@ -69,7 +71,11 @@ crossed =
     (task 1 1 10 MI (byMode 1 1 1) ∷ task 1 1 20 HI (byMode 1 1 1) ∷ []))
 
 unfoldable computed : Unit {0}
-unfolding every least allBelow anyBelow sumBelow highest anew tableOf tableKeeps keeps serverKeeps taskKeeps taskFits differ waits someWaits soundServer soundFront soundTask soundLast soundCounts soundState sound releaseOf judge step1 drops discards step2 step3 step4 settle able highestAble highestTask choose advance tickTaken tickOf after answers example turns crossed
+unfolding
+    every least allBelow anyBelow sumBelow highest anew tableOf tableKeeps keeps serverKeeps taskKeeps
+    taskFault taskStands differ waits someWaits soundServer soundFront soundTask soundLast soundCounts soundState sound
+    releaseOf judge step1 drops discards step2 step3 step4 settle able highestAble highestTask choose advance
+    tickTaken tickOf after answers example turns crossed
 computed = tt
 
 -- What one tick does.
@@ -79,12 +85,14 @@ pub two-releases : waitingAt (stateAfter (Release 1 ∷ Release 1 ∷ [])) 1 ≡
 unfolding computed
 two-releases = refl
 
--- Step 7, "All elapsed counts and the tick number rise by 1": after 11 ticks server 0, of period 10, has 1 elapsed
+-- Step 7, "All elapsed counts and the tick number rise by 1": after 11 ticks server 0, of period
+-- 10, has 1 elapsed
 pub eleven-ticks : map (elapsedAt (stateAfter (replicate 11 (Tick false)))) (0 ∷ 1 ∷ 2 ∷ []) ≡ 1 ∷ 11 ∷ 11 ∷ []
 unfolding computed
 eleven-ticks = refl
 
--- Steps 4 and 5 without a job: row 1 is charged its 2 ticks, row 0 its 1, then nobody, and at tick 4 a period is over
+-- Steps 4 and 5 without a job: row 1 is charged its 2 ticks, row 0 its 1, then nobody, and at tick
+-- 4 a period is over
 pub without-jobs : turns (answers (freshRun crossed) (replicate 5 (Tick false))) ≡
     Empty 1 ∷ Empty 1 ∷ Empty 0 ∷ Idle ∷ Empty 1 ∷ []
 unfolding computed
@@ -96,19 +104,21 @@ pub finished-by-mark : told (Release 0 ∷ Tick false ∷ Tick true ∷ []) ≡
 unfolding computed
 finished-by-mark = refl
 
--- Step 6, "run count plus 1. The front job's count starts at 0": the first job of task 1 ran two ticks, the second one
+-- Step 6, "run count plus 1. The front job's count starts at 0": the first job of task 1 ran two
+-- ticks, the second one
 pub counts-from-0 : runsAt (stateAfter (Release 1 ∷ Release 1 ∷ Tick false ∷ Tick false ∷ Tick true ∷ [])) 1 ≡ 1
 unfolding computed
 counts-from-0 = refl
 
--- Steps 5 and 6, "The highest is charged", "Its highest task with a waiting job runs the front job": row 1 each time
+-- Steps 5 and 6, "The highest is charged", "Its highest task with a waiting job runs the front
+-- job": row 1 each time
 pub highest-first : turns (answers (freshRun crossed) (Release 0 ∷ Release 1 ∷ Tick false ∷ Tick true ∷ Tick true ∷ Tick false ∷ [])) ≡
     Ran 1 1 ∷ Ran 1 0 ∷ Empty 0 ∷ Idle ∷ []
 unfolding computed
 highest-first = refl
 
--- Step 1, "in N the mode rises to D1; in D1 it rises to D2 for a MI or HI task": task 0 is HI with limits 1, 2, 3. In D2
--- it is cut; step 3 then finds no job waiting, and that tick is in N.
+-- Step 1, "in N the mode rises to D1; in D1 it rises to D2 for a MI or HI task": task 0 is HI with
+-- limits 1, 2, 3. In D2 it is cut; step 3 then finds no job waiting, and that tick is in N.
 pub rises-and-is-cut : told (Release 0 ∷ replicate 4 (Tick false)) ≡
     Released 0
     ∷ says 0 N (Ran 0 0) Nobody 0
@@ -119,15 +129,17 @@ pub rises-and-is-cut : told (Release 0 ∷ replicate 4 (Tick false)) ≡
 unfolding computed
 rises-and-is-cut = refl
 
--- "Used counts stay; only the capacity compared with them changes": of that run, which was in N, D1, D2 and N
+-- "Used counts stay; only the capacity compared with them changes": of that run, which was in N,
+-- D1, D2 and N
 pub used-over-modes : map (usedAt (stateAfter (Release 0 ∷ replicate 4 (Tick false)))) (0 ∷ 1 ∷ 2 ∷ []) ≡ 1 ∷ 3 ∷ 0 ∷ []
 unfolding computed
 used-over-modes = refl
 
--- "else the job is cut", "After a rise, judge again at the new limit": two jobs of task 2, LO with limits 2, 2, 2. After
--- server 1's five empty ticks the first runs two, rises to D1 and is cut there. The second waits, so the tick stays in
--- D1, where server 1 has 7 ticks, 5 of them used: two more are empty before the second job runs. Finished by mark, it
--- leaves no job waiting, and in N server 1 has 7 ticks used of 5.
+-- "else the job is cut", "After a rise, judge again at the new limit": two jobs of task 2, LO with
+-- limits 2, 2, 2. After server 1's five empty ticks the first runs two, rises to D1 and is cut
+-- there. The second waits, so the tick stays in D1, where server 1 has 7 ticks, 5 of them used: two
+-- more are empty before the second job runs. Finished by mark, it leaves no job waiting, and in N
+-- server 1 has 7 ticks used of 5.
 pub low-cut-in-D1 : told (Release 2 ∷ Release 2 ∷ (replicate 10 (Tick false) ++ (Tick true ∷ []))) ≡
     Released 2
     ∷ Released 2
@@ -146,7 +158,8 @@ pub low-cut-in-D1 : told (Release 2 ∷ Release 2 ∷ (replicate 10 (Tick false)
 unfolding computed
 low-cut-in-D1 = refl
 
--- Step 2, "On entering D2 every waiting LO job is discarded and counted": three of task 2 wait when task 0 rises to D2.
+-- Step 2, "On entering D2 every waiting LO job is discarded and counted": three of task 2 wait when
+-- task 0 rises to D2.
 pub low-discarded : told (Release 0 ∷ (replicate 3 (Release 2) ++ replicate 3 (Tick false))) ≡
     Released 0
     ∷ Released 2
@@ -177,17 +190,22 @@ pub no-8 : numbers (replicate 17 (Release 2) ++ (Release 1 ∷ [])) ≡ replicat
 unfolding computed
 no-8 = refl
 
--- 9, "mark 1, but no tick was taken yet or the last one ran no job": before any tick, after an empty one, and a second
--- time after a job
+-- 9, "mark 1, but no tick was taken yet or the last one ran no job": before any tick, after an
+-- empty one, and a second time after a job
 pub no-9 : numbers (Tick true ∷ Tick false ∷ Tick true ∷ Release 0 ∷ Tick false ∷ Tick true ∷ Tick true ∷ []) ≡
     9 ∷ 0 ∷ 9 ∷ 0 ∷ 0 ∷ 0 ∷ 9 ∷ []
 unfolding computed
 no-9 = refl
 
--- 10, "a tick when 4,000,000,000 are taken, or a release when as many are accepted; neither count refuses the other
--- event": a tick and a release, where so many ticks are taken and so many releases accepted
+-- a fresh state with these counts of taken ticks and accepted releases
+abbrev counted : ℕ → ℕ → State
+counted ticks accepted = withCounts fresh (record { 0 = ticks }) accepted
+
+-- 10, "a tick when 4,000,000,000 are taken, or a release when as many are accepted; neither count
+-- refuses the other event": a tick and a release, where so many ticks are taken and so many
+-- releases accepted
 abbrev atCounts : ℕ → ℕ → List ℕ
-atCounts ticks accepted = map (noIn (withCounts fresh ticks accepted)) (Tick false ∷ Release 0 ∷ [])
+atCounts ticks accepted = map (noIn (counted ticks accepted)) (Tick false ∷ Release 0 ∷ [])
 
 pub no-10-tick : map (λ n. atCounts n 0) (3999999999 ∷ 4000000000 ∷ []) ≡ (0 ∷ 0 ∷ []) ∷ (10 ∷ 0 ∷ []) ∷ []
 unfolding computed
@@ -200,7 +218,7 @@ no-10-release = refl
 -- a state in which so many jobs of task k wait, the front one after so many ticks
 abbrev queued : ℕ → ℕ → ℕ → State
 queued k waiting runs =
-    withCounts (withQueues fresh (set (fresh .waiting) k waiting) (set (fresh .runs) k runs)) 0 waiting
+    withCounts (withQueues fresh (set (fresh .waiting) k waiting) (set (fresh .runs) k runs)) (fresh .ticks) waiting
 
 -- a state with these counts of server i
 abbrev spent : ℕ → ℕ → ℕ → State
@@ -208,9 +226,10 @@ spent i used elapsed = withBudgets fresh (set (fresh .used) i used) (set (fresh 
 
 -- a state with task 0 as the last-run one and so many ticks taken
 abbrev lastRan : State → ℕ → State
-lastRan s ticks = withCounts (withLast s (Job 0)) ticks (s .accepted)
+lastRan s ticks = withCounts (withLast s (Job 0)) (record { 0 = ticks }) (s .accepted)
 
--- 13: a table without rows; each clause of a sound state broken, a bound by one; and the states beside them
+-- 13: a table without rows; each clause of a sound state broken, a bound by one; and the states
+-- beside them
 pub no-13-table : noOf (eventOf (freshRun (tableOf (rows [] []))) (Tick false) .answer) ≡ 13
 unfolding computed
 no-13-table = refl
@@ -230,9 +249,9 @@ pub no-13 : map (λ s. noIn s (Tick false))
     ∷ lastRan (queued 0 1 1) 0
     -- a LO job waits in D2; a tick too many; a release too many; fewer accepted than wait
     ∷ withMode (queued 2 1 0) D2
-    ∷ withCounts fresh 4000000001 0
-    ∷ withCounts fresh 0 4000000001
-    ∷ withCounts (queued 2 2 0) 0 1
+    ∷ counted 4000000001 0
+    ∷ counted 0 4000000001
+    ∷ withCounts (queued 2 2 0) (fresh .ticks) 1
     ∷ []) ≡ replicate 13 13
 unfolding computed
 no-13 = refl
@@ -249,19 +268,20 @@ pub no-13-beside : map (λ s. noIn s (Tick false))
 unfolding computed
 no-13-beside = refl
 
--- "state as it was": a job of task 1 waits, and then come a release and a tick that are refused. Who waits after that:
+-- "state as it was": a job of task 1 waits, and then come a release and a tick that are refused.
+-- Who waits after that:
 pub as-it-was : map (waitingAt (stateAfter (Release 1 ∷ Release 3 ∷ Tick true ∷ []))) (0 ∷ 1 ∷ 2 ∷ []) ≡ 0 ∷ 1 ∷ 0 ∷ []
 unfolding computed
 as-it-was = refl
 
 -- "Others: 13 first; release 6, 7, 8, 10; tick 9, 10": of two reasons the first is told
 pub first-told :
-    noIn (withCounts fresh 0 4000000001) (Release 3)
-    ∷ noIn (withCounts fresh 0 4000000000) (Release 3)
-    ∷ noIn (withMode (withCounts fresh 0 4000000000) D2) (Release 2)
-    ∷ noIn (withCounts (queued 2 16 0) 0 4000000000) (Release 2)
-    ∷ noIn (withCounts fresh 4000000001 0) (Tick true)
-    ∷ noIn (withCounts fresh 4000000000 0) (Tick true)
+    noIn (counted 0 4000000001) (Release 3)
+    ∷ noIn (counted 0 4000000000) (Release 3)
+    ∷ noIn (withMode (counted 0 4000000000) D2) (Release 2)
+    ∷ noIn (withCounts (queued 2 16 0) (fresh .ticks) 4000000000) (Release 2)
+    ∷ noIn (counted 4000000001 0) (Tick true)
+    ∷ noIn (counted 4000000000 0) (Tick true)
     ∷ [] ≡ 13 ∷ 6 ∷ 7 ∷ 8 ∷ 13 ∷ 9 ∷ []
 unfolding computed
 first-told = refl

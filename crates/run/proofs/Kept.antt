@@ -1,23 +1,25 @@
--- Soundness is kept: a fresh run of a table that keeps the rules is sound, and a release or a tick that is taken
--- leaves a sound state. So every state that a run hands out may be handed in again. Assumes nothing.
+-- Soundness is kept: a fresh run of a table that keeps the rules is sound, and a release or a tick
+-- that is taken leaves a sound state. So every state that a run hands out may be handed in again.
+-- Assumes nothing.
 use mathlib.Core.Path.{_≡_, refl, ap, _∙_}
 use mathlib.Core.Bool.{Bool, true, false, not, _&&_}
 use mathlib.Core.List.{List, [], _∷_}
 use mathlib.Core.Logic.{_⊎_, inl, inr}
 use Prim.Native.Nat.{ℕ, _+_, _≤_, _<_}
 use native.Mathlib.Omega.{arith}
-use lib.Dec.{ltb, eqb}
+use lib.Dec.{eqb}
 use lib.ListN.{length, getD-replicate}
-use borrow.Author.Tests.{eqb-false, ltb-true, ltb-false, eq-eqb}
-use Rattle.laws.specs.Choice.{if_then_else_}
-use Rattle.laws.proofs.Choice.{clash, if-ind, le-or-lt}
+use borrow.Author.Tests.{eqb-false, ltb-true, eq-eqb}
+use Rattle.laws.specs.Choice.{if_then_else_, larger}
+use Rattle.laws.proofs.Choice.{clash, le-or-lt, larger-left, larger-right}
 use Rattle.laws.proofs.Rows.{sum-le, sum-add, sum-cong, sum-zero}
+use Rattle.units.specs.declared.Ticks.{Ticks}
 use Rattle.table.specs.declared.ByMode.{ByMode}
 use Rattle.table.specs.declared.Mode.{Mode}
 use Rattle.table.specs.declared.Mode.the-variants.{N, D1, D2}
 use Rattle.table.specs.declared.Table.{Table}
-use Rattle.table.specs.Rows.{serverAt, taskAt, periodAt, limitAt, inMode, isLow}
-use Rattle.table.specs.Parts.{Sized}
+use Rattle.table.specs.Rows.{serverAt, taskAt, periodAt, limitAt, inMode, isLow, largest, isD2}
+use Rattle.table.specs.Inner.{Sized}
 use Rattle.table.specs.Rules.{tableKeeps}
 use Rattle.table.proofs.Rules.{TableRules, table-rules}
 use Rattle.run.specs.declared.Last.{Last}
@@ -30,25 +32,22 @@ use Rattle.run.specs.declared.Answered.{Answered}
 use Rattle.run.specs.declared.Turn.{Turn}
 use Rattle.run.specs.declared.Turn.the-variants.{Run as Ran, Empty, Idle}
 use Rattle.run.specs.State.{usedAt, elapsedAt, waitingAt, runsAt, fresh}
-use Rattle.run.specs.Sound.{larger, largest, isLast, isD2, sound}
+use Rattle.run.specs.Sound.{isLast, sound}
 use Rattle.run.specs.Answers.{one, ran}
 use Rattle.run.specs.Release.{withJob, freshRun, releaseOf}
 use Rattle.run.specs.Tick.{settle, choose, lastOf, advance, tickTaken, tickOf}
 use Rattle.run.specs.Events.{eventOf, after}
 use Rattle.run.proofs.Taken.{releaseTaken, tickedTaken, release-ind, tick-ind}
 use Rattle.run.proofs.Shape.{Shaped, RunShaped, event-run-shaped, settle-counts, fresh-run-shaped}
-use Rattle.run.proofs.Tick.{used-settled, elapsed-settled, used-after, elapsed-after, charged-able, able-room, charged-is, ran-front, ran-is, one-same, one-eq}
-use Rattle.run.proofs.Sound.{ServerSound, TaskSound, LastSound, CountsSound, StateSound, sound-table, sound-state, sound-build}
-use Rattle.run.proofs.Steps.{set-at, set-past, one-here, one-past, same-or-not, sum-one, settled-row, settled-low, waiting-settled, runs-after}
+use Rattle.run.proofs.Tick.{used-settled, elapsed-settled, used-after, elapsed-after, charged-able, able-room, charged-is}
+use Rattle.run.proofs.Tick.{ran-front, ran-is, one-same, one-eq}
+use Rattle.run.proofs.Sound.{ServerSound, TaskSound, LastSound, CountsSound, StateSound, sound-table, sound-state}
+use Rattle.run.proofs.Sound.{sound-build}
+use Rattle.run.proofs.Steps.{set-at, set-past, one-here, one-past, same-or-not, sum-one, settled-row, settled-low}
+use Rattle.run.proofs.Steps.{waiting-settled, runs-after}
 
 -- a capacity is at most the largest
-larger-left : (a b : ℕ) → a ≤ larger a b
-larger-left a b = if-ind (λ (n : ℕ). a ≤ n) (ltb a b) (λ e. omega (arith, ltb-true a b e)) (λ e. omega arith)
-
-larger-right : (a b : ℕ) → b ≤ larger a b
-larger-right a b = if-ind (λ (n : ℕ). b ≤ n) (ltb a b) (λ e. omega arith) (λ e. omega (arith, ltb-false a b e))
-
-pub in-largest : (x : ByMode) (m : Mode) → inMode x m ≤ largest x
+pub in-largest : (x : ByMode) (m : Mode) → inMode x m .0 ≤ largest x .0
 in-largest x N =
     let ab : ℕ = larger (x .n .0) (x .d1 .0) in
     omega (arith, larger-left (x .n .0) (x .d1 .0), larger-left ab (x .d2 .0))
@@ -191,7 +190,7 @@ refilled u e p h g o = go (eqb e p) refl
     go false q = (omega arith, omega (arith, eqb-false e p q), omega arith)
 
 module _ (t : Table) (s : State) (mark : Bool) (rules : TableRules t) (h : Shaped s) (f : StateSound t s)
-    (count : s .ticks < 4000000000) where
+    (count : s .ticks .0 < 4000000000) where
   tick-server : (i : ℕ) → i < t .nservers → ServerSound t (tickTaken t s mark .state) i
   tick-server i l =
       let z = settle t s mark .state in
@@ -288,7 +287,7 @@ module _ (t : Table) (s : State) (mark : Bool) (rules : TableRules t) (h : Shape
   tick-counts =
       let a = settle-counts t s mark in
       record {
-        ticks = omega (arith, a .0);
+        ticks = omega (arith, ap (λ (n : Ticks). n .0) (a .0));
         accepted = omega (arith, a .1, f .counts .accepted);
         waiting =
             omega (
@@ -333,7 +332,7 @@ tick-keeps r mark h e =
     (λ y.
     sound-build (tickedTaken r mark .run) (sound-table r e)
     (tick-sound (r .table) (r .state) mark rules (h .state) (sound-state r e)
-    (ltb-true (r .state .ticks) 4000000000 (y .count))))
+    (ltb-true (r .state .ticks .0) 4000000000 (y .count))))
 
 pub event-keeps : (r : Run) (e : Event) → RunShaped r → sound r ≡ true → sound (eventOf r e .run) ≡ true
 event-keeps r (Release k) h q = release-keeps r k h q

@@ -7,5 +7,7 @@ pub mod Judge
 pub mod Steps
 pub mod Kept
 pub mod Refused
-pub mod Jobs
-pub mod Reader
+pub mod Count
+pub mod Slips
+pub mod Values
+pub mod ManyLines

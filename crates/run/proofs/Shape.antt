@@ -1,9 +1,10 @@
--- The arrays of a state are lists here: they have 32 and 64 rows in a fresh state, and every event keeps their
--- lengths, since rows are only set or made anew. Beside it, what steps 1 to 3 leave as it was. Assumes nothing.
+-- The arrays of a state are lists here: they have 32 and 64 rows in a fresh state, and every event
+-- keeps their lengths, since rows are only set or made anew. Beside it, what steps 1 to 3 leave as
+-- it was. Assumes nothing.
 use mathlib.Core.Path.{_≡_, refl, ap, sym, subst, _∙_}
 use mathlib.Core.Bool.{Bool, true, false}
-use mathlib.Core.List.{List, [], _∷_}
-use Prim.Native.Nat.{ℕ}
+use mathlib.Core.List.{List}
+use Prim.Native.Nat.{ℕ, _-_}
 use lib.ListN.{length, set, length-set, length-replicate}
 use Rattle.laws.proofs.Choice.{if-ind}
 use Rattle.laws.proofs.Anew.{length-anew}
@@ -11,7 +12,7 @@ use Rattle.table.specs.declared.Mode.{Mode}
 use Rattle.table.specs.declared.Mode.the-variants.{N}
 use Rattle.table.specs.declared.Table.{Table}
 use Rattle.table.specs.Rows.{taskAt}
-use Rattle.table.specs.Parts.{Sized}
+use Rattle.table.specs.Inner.{Sized}
 use Rattle.run.specs.declared.Last.{Last}
 use Rattle.run.specs.declared.Last.the-variants.{NoJob, Job}
 use Rattle.run.specs.declared.State.{State}
@@ -20,10 +21,10 @@ use Rattle.run.specs.declared.Turn.{Turn}
 use Rattle.run.specs.declared.Event.{Event}
 use Rattle.run.specs.declared.Event.the-variants.{Release, Tick}
 use Rattle.run.specs.declared.Answered.{Answered}
-use Rattle.run.specs.State.{runsAt, someWaits, fresh, withMode}
+use Rattle.run.specs.State.{waitingAt, runsAt, someWaits, fresh, withMode, withQueues}
 use Rattle.run.specs.Release.{withJob, freshRun, releaseOf}
-use Rattle.run.specs.Tick.{Marked, judge, step1, step2, step3, step4, settle, choose, advance, tickTaken, tickOf}
-use Rattle.run.specs.Events.{eventOf, after}
+use Rattle.run.specs.Tick.{Marked, judge, withoutFront, step1, step2, step3, step4, settle, choose, advance, tickTaken, tickOf}
+use Rattle.run.specs.Events.{eventOf}
 use Rattle.run.proofs.Taken.{release-ind, tick-ind}
 
 pub record Shaped (s : State) : Type 0 where
@@ -32,8 +33,8 @@ pub record Shaped (s : State) : Type 0 where
   pub waiting : length (s .waiting) ≡ 64
   pub runs : length (s .runs) ≡ 64
 
--- what steps 1 to 3 leave alone: the servers' counts, the last-run job, the counts of ticks and releases, and the
--- arrays' lengths
+-- what steps 1 to 3 leave alone: the servers' counts, the last-run job, the counts of ticks and
+-- releases, and the arrays' lengths
 pub record Alike (s z : State) : Type 0 where
   pub used : z .used ≡ s .used
   pub elapsed : z .elapsed ≡ s .elapsed
@@ -43,17 +44,27 @@ pub record Alike (s z : State) : Type 0 where
   pub waiting : length (z .waiting) ≡ length (s .waiting)
   pub runs : length (z .runs) ≡ length (s .runs)
 
-pub alike : (s : State) → Alike s s
-alike s =
+-- another mode and other queues of the same length, and all else as it was
+queues-alike : (s : State) (m : Mode) (ws rs : List ℕ) → length ws ≡ length (s .waiting) →
+    length rs ≡ length (s .runs) → Alike s (withQueues (withMode s m) ws rs)
+queues-alike s m ws rs p q =
     record {
       used = refl;
       elapsed = refl;
       last = refl;
       ticks = refl;
       accepted = refl;
-      waiting = refl;
-      runs = refl;
+      waiting = p;
+      runs = q;
     }
+
+pub mode-alike : (s : State) (m : Mode) → Alike s (withMode s m)
+mode-alike s m = queues-alike s m (s .waiting) (s .runs) refl refl
+
+front-alike : (s : State) (m : Mode) (k : ℕ) → Alike s (withoutFront (withMode s m) k)
+front-alike s m k =
+    queues-alike s m (set (s .waiting) k (waitingAt s k - 1)) (set (s .runs) k 0) (length-set (s .waiting) k _)
+    (length-set (s .runs) k _)
 
 pub alike-then : {s y z : State} → Alike s y → Alike y z → Alike s z
 alike-then a b =
@@ -76,69 +87,23 @@ alike-shaped a h =
       runs = a .runs ∙ h .runs;
     }
 
--- another mode, and all else as it was
-pub mode-alike : (s : State) (m : Mode) → Alike s (withMode s m)
-mode-alike s m =
-    record {
-      used = refl;
-      elapsed = refl;
-      last = refl;
-      ticks = refl;
-      accepted = refl;
-      waiting = refl;
-      runs = refl;
-    }
-
 pub step1-alike : (t : Table) (s : State) (mark : Bool) (l : Last) → Alike s (step1 t s mark l .state)
 unfolding step1
-step1-alike t s mark NoJob = alike s
-step1-alike t s true (Job k) =
-    record {
-      used = refl;
-      elapsed = refl;
-      last = refl;
-      ticks = refl;
-      accepted = refl;
-      waiting = length-set (s .waiting) k _;
-      runs = length-set (s .runs) k _;
-    }
+step1-alike t s mark NoJob = mode-alike s (s .mode)
+step1-alike t s true (Job k) = front-alike s (s .mode) k
 step1-alike t s false (Job k) =
-    if-ind
-    (λ (m : Marked). Alike s (m .state))
-    (judge 3 (taskAt t k) (runsAt s k) (s .mode) .cut)
-    (λ e.
-    record {
-      used = refl;
-      elapsed = refl;
-      last = refl;
-      ticks = refl;
-      accepted = refl;
-      waiting = length-set (s .waiting) k _;
-      runs = length-set (s .runs) k _;
-    })
-    (λ e. mode-alike s (judge 3 (taskAt t k) (runsAt s k) (s .mode) .mode))
+    let j = judge 3 (taskAt t k) (runsAt s k) (s .mode) in
+    if-ind (λ (m : Marked). Alike s (m .state)) (j .cut) (λ e. front-alike s (j .mode) k) (λ e. mode-alike s (j .mode))
 
 pub step2-alike : (t : Table) (before : Mode) (s : State) → Alike s (step2 t before s)
 unfolding step2
 step2-alike t before s =
-    record {
-      used = refl;
-      elapsed = refl;
-      last = refl;
-      ticks = refl;
-      accepted = refl;
-      waiting = length-anew _ _ (s .waiting);
-      runs = length-anew _ _ (s .runs);
-    }
+    queues-alike s (s .mode) (step2 t before s .waiting) (step2 t before s .runs) (length-anew _ _ (s .waiting))
+    (length-anew _ _ (s .runs))
 
 pub step3-alike : (t : Table) (s : State) → Alike s (step3 t s)
 unfolding step3
-step3-alike t s =
-    if-ind
-    (Alike s)
-    (someWaits t s)
-    (λ e. alike s)
-    (λ e. mode-alike s N)
+step3-alike t s = if-ind (Alike s) (someWaits t s) (λ e. mode-alike s (s .mode)) (λ e. mode-alike s N)
 
 -- the state after steps 1 to 3
 unfoldable pub step123 : Table → State → Bool → State
@@ -228,11 +193,6 @@ event-table r (Release k) =
 event-table r (Tick mark) =
     tick-ind (λ (a : Answered). a .run .table ≡ r .table) r mark (λ why. refl) (λ y. refl)
 
-pub after-table : (r : Run) (es : List Event) → after r es .table ≡ r .table
-unfolding after
-after-table r [] = refl
-after-table r (e ∷ es) = after-table (eventOf r e .run) es ∙ event-table r e
-
 pub event-shaped : (r : Run) (e : Event) → Shaped (r .state) → Shaped (eventOf r e .run .state)
 event-shaped r (Release k) h = release-shaped r k h
 event-shaped r (Tick mark) h = ticked-shaped r mark h
@@ -248,8 +208,3 @@ fresh-run-shaped t z = record { table = z; state = fresh-shaped }
 pub event-run-shaped : (r : Run) (e : Event) → RunShaped r → RunShaped (eventOf r e .run)
 event-run-shaped r e h =
     record { table = subst Sized (sym (event-table r e)) (h .table); state = event-shaped r e (h .state) }
-
-pub after-shaped : (r : Run) (es : List Event) → Shaped (r .state) → Shaped (after r es .state)
-unfolding after
-after-shaped r [] h = h
-after-shaped r (e ∷ es) h = after-shaped (eventOf r e .run) es (event-shaped r e h)

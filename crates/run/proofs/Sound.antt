@@ -1,5 +1,6 @@
--- What it says that a run is sound, clause by clause, as plain facts of its rows and counts; and back: from the
--- facts, that it is sound. So 13 is answered exactly where one of these facts is broken. Assumes nothing.
+-- What it says that a run is sound, clause by clause, as plain facts of its rows and counts; and
+-- back: from the facts, that it is sound. So 13 is answered exactly where one of these facts is
+-- broken. Assumes nothing.
 use mathlib.Core.Path.{_≡_, refl}
 use mathlib.Core.Bool.{Bool, true, false, not, _&&_, _||_}
 use mathlib.Core.List.{[], _∷_}
@@ -10,23 +11,24 @@ use lib.Dec.{leb, ltb, eqb}
 use borrow.Author.Tests.{ltb-true, ltb-false, leb-true, eqb-true, lt-ltb, le-ltb, le-leb, eq-eqb, not-true}
 use Rattle.laws.specs.Choice.{every}
 use Rattle.laws.specs.Rows.{allBelow, sumBelow}
-use Rattle.laws.proofs.Choice.{clash, true-or-false, and-true, and-left, and-right, or-cases, or-true-left, or-true-right, every-at}
+use Rattle.laws.proofs.Choice.{clash, true-or-false, and-true, and-left, and-right, or-cases, or-true-left, or-true-right}
+use Rattle.laws.proofs.Choice.{every-at}
 use Rattle.laws.proofs.Rows.{all-at, all-build}
 use Rattle.table.specs.declared.Table.{Table}
-use Rattle.table.specs.Rows.{serverAt, taskAt, periodAt, limitAt, isLow}
+use Rattle.table.specs.Rows.{serverAt, taskAt, periodAt, limitAt, isLow, largest, isD2}
 use Rattle.table.specs.Rules.{tableKeeps}
 use Rattle.run.specs.declared.Last.{Last}
 use Rattle.run.specs.declared.Last.the-variants.{NoJob, Job}
 use Rattle.run.specs.declared.State.{State}
 use Rattle.run.specs.declared.Run.{Run}
 use Rattle.run.specs.State.{usedAt, elapsedAt, waitingAt, runsAt, taskWaits}
-use Rattle.run.specs.Sound.{largest, soundServer, isLast, isD2, soundFront, soundTask, soundLast, soundCounts, soundState, sound}
+use Rattle.run.specs.Sound.{soundServer, isLast, soundFront, soundTask, soundLast, soundCounts, soundState, sound}
 
 -- a server's row
 pub record ServerSound (t : Table) (s : State) (i : ℕ) : Type 0 where
   pub elapsed : elapsedAt s i ≤ periodAt t i
   pub used : usedAt s i ≤ elapsedAt s i
-  pub room : usedAt s i ≤ largest (serverAt t i .capacity)
+  pub room : usedAt s i ≤ largest (serverAt t i .capacity) .0
 
 -- a task's row: its front job, if there is one, has not reached its limit, but for the last-run job
 pub record TaskSound (t : Table) (s : State) (k : ℕ) : Type 0 where
@@ -41,14 +43,14 @@ pub record JobSound (t : Table) (s : State) (k : ℕ) : Type 0 where
   pub below : k < t .ntasks
   pub waits : 0 < waitingAt s k
   pub ran : 1 ≤ runsAt s k
-  pub tick : 1 ≤ s .ticks
+  pub tick : 1 ≤ s .ticks .0
 
 abbrev pub LastSound : Table → State → Last → Type 0
 LastSound t s NoJob = Unit {0}
 LastSound t s (Job k) = JobSound t s k
 
 pub record CountsSound (t : Table) (s : State) : Type 0 where
-  pub ticks : s .ticks ≤ 4000000000
+  pub ticks : s .ticks .0 ≤ 4000000000
   pub accepted : s .accepted ≤ 4000000000
   pub waiting : sumBelow (t .ntasks) (waitingAt s) ≤ s .accepted
 
@@ -66,7 +68,7 @@ server-facts t s i e =
     record {
       elapsed = leb-true (elapsedAt s i) (periodAt t i) (at 0);
       used = leb-true (usedAt s i) (elapsedAt s i) (at 1);
-      room = leb-true (usedAt s i) (largest (serverAt t i .capacity)) (at 2);
+      room = leb-true (usedAt s i) (largest (serverAt t i .capacity) .0) (at 2);
     }
 
 front-none : (t : Table) (s : State) (k : ℕ) → soundFront t s k ≡ true → waitingAt s k ≡ 0 → runsAt s k ≡ 0
@@ -114,12 +116,12 @@ last-facts : (t : Table) (s : State) (l : Last) → soundLast t s l ≡ true →
 unfolding soundLast
 last-facts t s NoJob e = tt
 last-facts t s (Job k) e =
-    let at = every-at (ltb k (t .ntasks) ∷ taskWaits s k ∷ leb 1 (runsAt s k) ∷ leb 1 (s .ticks) ∷ []) e in
+    let at = every-at (ltb k (t .ntasks) ∷ taskWaits s k ∷ leb 1 (runsAt s k) ∷ leb 1 (s .ticks .0) ∷ []) e in
     record {
       below = ltb-true k (t .ntasks) (at 0);
       waits = ltb-true 0 (waitingAt s k) (at 1);
       ran = leb-true 1 (runsAt s k) (at 2);
-      tick = leb-true 1 (s .ticks) (at 3);
+      tick = leb-true 1 (s .ticks .0) (at 3);
     }
 
 counts-facts : (t : Table) (s : State) → every (soundCounts t s) ≡ true → CountsSound t s
@@ -127,49 +129,38 @@ unfolding soundCounts
 counts-facts t s e =
     let at = every-at (soundCounts t s) e in
     record {
-      ticks = leb-true (s .ticks) 4000000000 (at 0);
+      ticks = leb-true (s .ticks .0) 4000000000 (at 0);
       accepted = leb-true (s .accepted) 4000000000 (at 1);
       waiting = leb-true (sumBelow (t .ntasks) (waitingAt s)) (s .accepted) (at 2);
     }
 
+-- the state's tests, row by row and in all
+abbrev servers : Table → State → Bool
+servers t s = allBelow (t .nservers) (λ i. every (soundServer t s i))
+
+abbrev tasks : Table → State → Bool
+tasks t s = allBelow (t .ntasks) (λ k. every (soundTask t s k))
+
 pub state-facts : (t : Table) (s : State) → soundState t s ≡ true → StateSound t s
-unfolding soundState every
+unfolding soundState
 state-facts t s e =
-    let servers : Bool = allBelow (t .nservers) (λ i. every (soundServer t s i)) in
-    let tasks : Bool = allBelow (t .ntasks) (λ k. every (soundTask t s k)) in
-    let last : Bool = soundLast t s (s .last) in
-    let counts : Bool = every (soundCounts t s) in
-    let e2 = and-right servers (tasks && (last && (counts && true))) e in
-    let e3 = and-right tasks (last && (counts && true)) e2 in
-    let e4 = and-right last (counts && true) e3 in
+    let at = every-at (servers t s ∷ tasks t s ∷ soundLast t s (s .last) ∷ every (soundCounts t s) ∷ []) e in
     record {
-      servers =
-          λ i h.
-          server-facts t s i
-          (all-at (λ i. every (soundServer t s i)) (t .nservers) i
-          (and-left servers (tasks && (last && (counts && true))) e) h);
-      tasks =
-          λ k h.
-          task-facts t s k
-          (all-at (λ k. every (soundTask t s k)) (t .ntasks) k (and-left tasks (last && (counts && true)) e2) h);
-      last = last-facts t s (s .last) (and-left last (counts && true) e3);
-      counts = counts-facts t s (and-left counts true e4);
+      servers = λ i h. server-facts t s i (all-at (λ i. every (soundServer t s i)) (t .nservers) i (at 0) h);
+      tasks = λ k h. task-facts t s k (all-at (λ k. every (soundTask t s k)) (t .ntasks) k (at 1) h);
+      last = last-facts t s (s .last) (at 2);
+      counts = counts-facts t s (at 3);
     }
 
 -- From the facts to the tests.
-all-three : (a b c : Bool) → a ≡ true → b ≡ true → c ≡ true → (a && (b && (c && true))) ≡ true
-all-three a b c p q r = rw (p, q, r)
-
 server-tests : (t : Table) (s : State) (i : ℕ) → ServerSound t s i → every (soundServer t s i) ≡ true
 unfolding soundServer every
 server-tests t s i f =
-    all-three
-    (leb (elapsedAt s i) (periodAt t i))
-    (leb (usedAt s i) (elapsedAt s i))
-    (leb (usedAt s i) (largest (serverAt t i .capacity)))
-    (le-leb (elapsedAt s i) (periodAt t i) (f .elapsed))
-    (le-leb (usedAt s i) (elapsedAt s i) (f .used))
-    (le-leb (usedAt s i) (largest (serverAt t i .capacity)) (f .room))
+    rw (
+      le-leb (elapsedAt s i) (periodAt t i) (f .elapsed),
+      le-leb (usedAt s i) (elapsedAt s i) (f .used),
+      le-leb (usedAt s i) (largest (serverAt t i .capacity) .0) (f .room),
+    )
 
 front-test : (t : Table) (s : State) (k : ℕ) → TaskSound t s k → soundFront t s k ≡ true
 unfolding soundFront
@@ -206,63 +197,42 @@ low-test false l w f = refl
 task-tests : (t : Table) (s : State) (k : ℕ) → TaskSound t s k → every (soundTask t s k) ≡ true
 unfolding soundTask every
 task-tests t s k f =
-    all-three
-    (leb (waitingAt s k) 16)
-    (soundFront t s k)
-    (not (isD2 (s .mode) && (isLow (taskAt t k .level) && taskWaits s k)))
-    (le-leb (waitingAt s k) 16 (f .queue))
-    (front-test t s k f)
-    (low-test
-    (isD2 (s .mode))
-    (isLow (taskAt t k .level))
-    (taskWaits s k)
-    (λ d l. le-ltb 0 (waitingAt s k) (omega (arith, f .low d l))))
+    rw (
+      le-leb (waitingAt s k) 16 (f .queue),
+      front-test t s k f,
+      low-test (isD2 (s .mode)) (isLow (taskAt t k .level)) (taskWaits s k)
+          (λ d l. le-ltb 0 (waitingAt s k) (omega (arith, f .low d l))),
+    )
 
 last-test : (t : Table) (s : State) (l : Last) → LastSound t s l → soundLast t s l ≡ true
 unfolding soundLast every
 last-test t s NoJob f = refl
 last-test t s (Job k) f =
-    and-true
-    (ltb k (t .ntasks))
-    (taskWaits s k && (leb 1 (runsAt s k) && (leb 1 (s .ticks) && true)))
-    (lt-ltb k (t .ntasks) (f .below))
-    (all-three
-    (taskWaits s k)
-    (leb 1 (runsAt s k))
-    (leb 1 (s .ticks))
-    (lt-ltb 0 (waitingAt s k) (f .waits))
-    (le-leb 1 (runsAt s k) (f .ran))
-    (le-leb 1 (s .ticks) (f .tick)))
+    rw (
+      lt-ltb k (t .ntasks) (f .below),
+      lt-ltb 0 (waitingAt s k) (f .waits),
+      le-leb 1 (runsAt s k) (f .ran),
+      le-leb 1 (s .ticks .0) (f .tick),
+    )
 
 counts-tests : (t : Table) (s : State) → CountsSound t s → every (soundCounts t s) ≡ true
 unfolding soundCounts every
 counts-tests t s f =
-    all-three
-    (leb (s .ticks) 4000000000)
-    (leb (s .accepted) 4000000000)
-    (leb (sumBelow (t .ntasks) (waitingAt s)) (s .accepted))
-    (le-leb (s .ticks) 4000000000 (f .ticks))
-    (le-leb (s .accepted) 4000000000 (f .accepted))
-    (le-leb (sumBelow (t .ntasks) (waitingAt s)) (s .accepted) (f .waiting))
+    rw (
+      le-leb (s .ticks .0) 4000000000 (f .ticks),
+      le-leb (s .accepted) 4000000000 (f .accepted),
+      le-leb (sumBelow (t .ntasks) (waitingAt s)) (s .accepted) (f .waiting),
+    )
 
 pub state-tests : (t : Table) (s : State) → StateSound t s → soundState t s ≡ true
 unfolding soundState every
 state-tests t s f =
-    let servers : Bool = allBelow (t .nservers) (λ i. every (soundServer t s i)) in
-    let tasks : Bool = allBelow (t .ntasks) (λ k. every (soundTask t s k)) in
-    let last : Bool = soundLast t s (s .last) in
-    let counts : Bool = every (soundCounts t s) in
-    and-true
-    servers
-    (tasks && (last && (counts && true)))
-    (all-build (λ i. every (soundServer t s i)) (t .nservers) (λ i h. server-tests t s i (f .servers i h)))
-    (all-three
-    tasks
-    last
-    counts
-    (all-build (λ k. every (soundTask t s k)) (t .ntasks) (λ k h. task-tests t s k (f .tasks k h)))
-    (last-test t s (s .last) (f .last))
-    (counts-tests t s (f .counts)))
+    rw (
+      all-build (λ i. every (soundServer t s i)) (t .nservers) (λ i h. server-tests t s i (f .servers i h)),
+      all-build (λ k. every (soundTask t s k)) (t .ntasks) (λ k h. task-tests t s k (f .tasks k h)),
+      last-test t s (s .last) (f .last),
+      counts-tests t s (f .counts),
+    )
 
 -- A run is sound exactly if its table keeps the rules and its state the clauses.
 pub sound-table : (r : Run) → sound r ≡ true → tableKeeps (r .table) ≡ true

@@ -1,8 +1,8 @@
--- The tasks' rows through a tick. Steps 1 to 3 only take jobs away, each counted; after them no job is at its limit,
--- and no LO job waits in D2. Steps 4 to 7 leave the queues alone but for the run count of the job that runs. Assumes
--- nothing.
+-- The tasks' rows through a tick. Steps 1 to 3 only take jobs away, each counted; after them no job
+-- is at its limit, and no LO job waits in D2. Steps 4 to 7 leave the queues alone but for the run
+-- count of the job that runs. Assumes nothing.
 use mathlib.Core.Path.{_≡_, refl, ap, sym, subst, _∙_}
-use mathlib.Core.Bool.{Bool, true, false, not}
+use mathlib.Core.Bool.{Bool, true, false}
 use mathlib.Core.List.{List}
 use mathlib.Core.Logic.{_⊎_, inl, inr}
 use Prim.Native.Nat.{ℕ, zero, suc, _+_, _-_, _≤_, _<_}
@@ -17,17 +17,18 @@ use Rattle.laws.proofs.Choice.{clash, if-ind, true-or-false}
 use Rattle.laws.proofs.Rows.{any-none, sum-zero}
 use Rattle.laws.proofs.Anew.{anew-at}
 use Rattle.table.specs.declared.Mode.{Mode}
-use Rattle.table.specs.declared.Mode.the-variants.{D2}
 use Rattle.table.specs.declared.Table.{Table}
-use Rattle.table.specs.Rows.{taskAt, limitAt, isLow}
+use Rattle.table.specs.Rows.{taskAt, limitAt, isLow, isD2}
 use Rattle.table.proofs.Rules.{TableRules}
 use Rattle.run.specs.declared.Last.{Last}
 use Rattle.run.specs.declared.Last.the-variants.{NoJob, Job}
 use Rattle.run.specs.declared.State.{State}
 use Rattle.run.specs.State.{waitingAt, runsAt, taskWaits, someWaits, withMode}
-use Rattle.run.specs.Sound.{isD2, isLast}
+use Rattle.run.specs.Sound.{isLast}
 use Rattle.run.specs.Answers.{one, ran, finishedBy, cutBy}
-use Rattle.run.specs.Tick.{Judged, Marked, judge, withoutFront, judged, step1, drops, discards, step2, step3, step4, settle, choose, advance, tickTaken}
+use Rattle.run.specs.declared.Judged.{Judged}
+use Rattle.run.specs.Tick.{Marked, judge, withoutFront, judged, step1, drops, discards, step2, step3, step4, settle, choose}
+use Rattle.run.specs.Tick.{advance, tickTaken}
 use Rattle.run.proofs.Shape.{Shaped, alike-shaped, mode-alike, step1-alike, settle-shaped}
 use Rattle.run.proofs.Sound.{TaskSound, JobSound, LastSound, StateSound}
 use Rattle.run.proofs.Judge.{Rises, JudgedRight, judged-right}
@@ -75,7 +76,8 @@ front-gone s j k l w = go (same-or-not j k)
 
 -- "Mark 1: that job leaves, finished"; judged, it stays or is cut. Every other queue is as it was.
 judged-waiting : (s : State) (j : ℕ) (v : Judged) (k : ℕ) → j < length (s .waiting) → 0 < waitingAt s j →
-    waitingAt (judged s j v .state) k + (finishedBy (judged s j v .left) k + cutBy (judged s j v .left) k) ≡ waitingAt s k
+    waitingAt (judged s j v .state) k + (finishedBy (judged s j v .left) k + cutBy (judged s j v .left) k)
+    ≡ waitingAt s k
 judged-waiting s j v k l w =
     if-ind
     (λ (m : Marked). waitingAt (m .state) k + (finishedBy (m .left) k + cutBy (m .left) k) ≡ waitingAt s k)
@@ -130,7 +132,8 @@ pub record JudgedRow (t : Table) (s : State) (k : ℕ) : Type 0 where
   pub none : waitingAt s k ≡ 0 → runsAt s k ≡ 0
   pub front : 0 < waitingAt s k → runsAt s k < limitAt t (s .mode) k
 
--- In a sound state a task that is not the last-run one is below its limit, and the last-run one not beyond it.
+-- In a sound state a task that is not the last-run one is below its limit, and the last-run one not
+-- beyond it.
 other-below : (t : Table) (s : State) (k : ℕ) → TaskSound t s k → (isLast (s .last) k ≡ true → ⊥) → 0 < waitingAt s k →
     runsAt s k < limitAt t (s .mode) k
 other-below t s k f n w = go (f .front w)
@@ -140,11 +143,13 @@ other-below t s k f n w = go (f .front w)
     go (inl p) = p
     go (inr q) = absurd (n (q .0))
 
-within-limit : (t : Table) (s : State) (k : ℕ) → TaskSound t s k → 0 < waitingAt s k → runsAt s k ≤ limitAt t (s .mode) k
+within-limit : (t : Table) (s : State) (k : ℕ) → TaskSound t s k → 0 < waitingAt s k →
+    runsAt s k ≤ limitAt t (s .mode) k
 within-limit t s k f w = elim (f .front w) [ inl p ↦ omega arith | inr q ↦ omega (arith, q .1) ]
 
 -- the row of the task whose front job left: "the front job's count starts at 0"
-gone-row : (t : Table) (s : State) (j k : ℕ) → Shaped s → j < 64 → j ≡ k → waitingAt s k ≤ 16 → 1 ≤ limitAt t (s .mode) k →
+gone-row : (t : Table) (s : State) (j k : ℕ) → Shaped s → j < 64 → j ≡ k → waitingAt s k ≤ 16 →
+    1 ≤ limitAt t (s .mode) k →
     JudgedRow t (withoutFront s j) k
 gone-row t s j k h l e q m =
     let w = set-at (s .waiting) j (waitingAt s j - 1) k (omega (arith, h .waiting)) e in
@@ -208,7 +213,8 @@ finished-row t s j last rules h below k l f (inr n) =
     other-row t s j k n
     (risen-row t s (s .mode) k f (other-below t s k f (λ e. n (eqb-true j k (rw last at e)))))
 
-pub step1-row : (t : Table) (s : State) (mark : Bool) (l : Last) → s .last ≡ l → TableRules t → Shaped s → StateSound t s →
+pub step1-row : (t : Table) (s : State) (mark : Bool) (l : Last) → s .last ≡ l → TableRules t → Shaped s →
+    StateSound t s →
     (k : ℕ) → k < t .ntasks → JudgedRow t (step1 t s mark l .state) k
 unfolding step1
 step1-row t s mark NoJob last rules h f k l =
@@ -273,7 +279,8 @@ step3-row t s k l f =
     record {
       queue = f .queue;
       none = f .none;
-      front = λ w. absurd (clash (taskWaits s k) (lt-ltb 0 (waitingAt s k) w) (any-none (taskWaits s) (t .ntasks) k e l));
+      front =
+          λ w. absurd (clash (taskWaits s k) (lt-ltb 0 (waitingAt s k) w) (any-none (taskWaits s) (t .ntasks) k e l));
     })
 
 step3-low : (t : Table) (s : State) (k : ℕ) → (isD2 (s .mode) ≡ true → waitingAt s k ≡ 0) →

@@ -1,13 +1,13 @@
--- The laws of one tick, T1 to T6: what it does to a server's counts, who is charged, and whose job runs. In them z is
--- the state that step 5 finds, `settle t s mark .state`, and the turn is `choose t z`. Each is read off the steps and
--- off the law of the highest row. Assumes nothing.
+-- The laws of one tick, T1 to T6: what it does to a server's counts, who is charged, and whose job
+-- runs. In them z is the state that step 5 finds, `settle t s mark .state`, and the turn is `choose
+-- t z`. Each is read off the steps and off the law of the highest row. Assumes nothing.
 use mathlib.Core.Path.{_≡_, refl, ap, sym, _∙_}
 use mathlib.Core.Bool.{Bool, true, false, _||_}
 use mathlib.Core.Logic.{_⊎_, inl, inr}
 use Prim.Native.Nat.{ℕ, _+_, _≤_, _<_}
 use native.Mathlib.Omega.{arith}
 use lib.Dec.{ltb, eqb}
-use borrow.Author.Tests.{ltb-true, lt-ltb, eqb-true, eqb-false, eq-eqb}
+use borrow.Author.Tests.{ltb-true, lt-ltb, eqb-true, eq-eqb}
 use Rattle.laws.specs.declared.Found.{Found}
 use Rattle.laws.specs.declared.Found.the-variants.{At, Nothing}
 use Rattle.laws.specs.Choice.{if_then_else_}
@@ -15,9 +15,9 @@ use Rattle.laws.proofs.Choice.{clash, if-ind, and-left, and-right, and-true, or
 use Rattle.laws.proofs.Rows.{any-found, any-at}
 use Rattle.laws.proofs.Anew.{anew-at}
 use Rattle.laws.proofs.Highest.{highest-at, highest-none}
+use Rattle.units.specs.declared.Ticks.{Ticks}
 use Rattle.table.specs.declared.Table.{Table}
 use Rattle.table.specs.Rows.{serverAt, taskAt, periodAt, priorityAt, capacityAt, taskPriorityAt, isTimed}
-use Rattle.table.proofs.Rules.{TableRules}
 use Rattle.run.specs.declared.State.{State}
 use Rattle.run.specs.declared.Turn.{Turn}
 use Rattle.run.specs.declared.Turn.the-variants.{Run as Ran, Empty, Idle}
@@ -27,8 +27,8 @@ use Rattle.run.specs.Release.{withJob}
 use Rattle.run.specs.Tick.{step4, settle, able, highestAble, highestTask, turnOf, choose, lastOf, advance, tickTaken}
 use Rattle.run.proofs.Shape.{Shaped, alike-shaped, step123, step123-alike, settle-is, settle-shaped, settle-counts}
 
--- T1. The servers' counts: step 4 starts them afresh where the period ended, steps 5 and 7 raise them. Nothing else
--- changes them.
+-- T1. The servers' counts: step 4 starts them afresh where the period ended, steps 5 and 7 raise
+-- them. Nothing else changes them.
 step4-used : (t : Table) (s : State) (i : ℕ) → i < t .nservers → t .nservers ≤ 32 → Shaped s →
     usedAt (step4 t s) i ≡ (if eqb (elapsedAt s i) (periodAt t i) then 0 else usedAt s i)
 unfolding step4
@@ -69,9 +69,9 @@ unfolding tickTaken advance
 mode-after t s mark = refl
 
 -- "the tick number" rises by 1, and no release is counted
-pub ticks-after : (t : Table) (s : State) (mark : Bool) → tickTaken t s mark .state .ticks ≡ s .ticks + 1
+pub ticks-after : (t : Table) (s : State) (mark : Bool) → tickTaken t s mark .state .ticks .0 ≡ s .ticks .0 + 1
 unfolding tickTaken advance
-ticks-after t s mark = ap (λ n. n + 1) (settle-counts t s mark .0)
+ticks-after t s mark = ap (λ (n : Ticks). n .0 + 1) (settle-counts t s mark .0)
 
 pub accepted-after : (t : Table) (s : State) (mark : Bool) → tickTaken t s mark .state .accepted ≡ s .accepted
 unfolding tickTaken advance
@@ -84,7 +84,8 @@ unfolding tickTaken advance
 last-after t s mark = refl
 
 -- what the tick says of its mode and its turn is what step 5 found
-pub answer-mode : (t : Table) (s : State) (mark : Bool) → tickTaken t s mark .answer .mode ≡ settle t s mark .state .mode
+pub answer-mode : (t : Table) (s : State) (mark : Bool) →
+    tickTaken t s mark .answer .mode ≡ settle t s mark .state .mode
 unfolding tickTaken
 answer-mode t s mark = refl
 

@@ -1,24 +1,27 @@
--- What an answer says: the paper's number for each case, and what it tells of servers and jobs. The promises count with these.
-use mathlib.Core.Bool.{Bool, true, false}
+-- What an answer says: the paper's number for each case, and what it tells of servers and jobs. The
+-- promises count with these.
 use Prim.Native.Nat.{ℕ}
 use lib.Dec.{eqb}
 use Rattle.laws.specs.Choice.{if_then_else_}
-use Rattle.table.specs.declared.Refusal.{Refusal}
 use Rattle.table.specs.Refusals.{numberOf}
 use Rattle.run.specs.declared.Turn.{Turn}
 use Rattle.run.specs.declared.Turn.the-variants.{Run as Ran, Empty, Idle}
 use Rattle.run.specs.declared.Left.{Left}
 use Rattle.run.specs.declared.Left.the-variants.{Nobody, Done, Cut}
-use Rattle.run.specs.declared.TickAnswer.{TickAnswer}
 use Rattle.run.specs.declared.Answer.{Answer}
-use Rattle.run.specs.declared.Answer.the-variants.{Started, Released, Ticked, No}
+use Rattle.run.specs.declared.Answer.the-variants.{Released, Ticked, No}
+use Rattle.run.specs.declared.Starting.{Starting}
+use Rattle.run.specs.declared.Starting.the-variants.{Started, Refused}
 
 -- the paper's number for no, and 0 for what is taken
 abbrev pub noOf : Answer → ℕ
-noOf Started = 0
 noOf (Released k) = 0
 noOf (Ticked a) = 0
 noOf (No why) = numberOf why
+
+abbrev pub startingNumber : Starting → ℕ
+startingNumber Started = 0
+startingNumber (Refused why) = numberOf why
 
 -- 1 where the two rows are one, else 0
 abbrev pub one : ℕ → ℕ → ℕ

@@ -1,11 +1,12 @@
--- Jobs counted from the answers alone: each release that is taken is answered so, and with each taken tick go "the
--- job that left and how, and the number discarded". The promises count with these.
+-- Jobs counted from the answers alone: each release that is taken is answered so, and with each
+-- taken tick go "the job that left and how, and the number discarded". The promises count with
+-- these.
 use mathlib.Core.List.{List, [], _∷_}
 use Prim.Native.Nat.{ℕ, _+_}
 use Rattle.run.specs.declared.Left.{Left}
 use Rattle.run.specs.declared.Left.the-variants.{Nobody, Done, Cut}
 use Rattle.run.specs.declared.Answer.{Answer}
-use Rattle.run.specs.declared.Answer.the-variants.{Started, Released, Ticked, No}
+use Rattle.run.specs.declared.Answer.the-variants.{Released, Ticked, No}
 use Rattle.run.specs.declared.Run.{Run}
 use Rattle.run.specs.declared.Event.{Event}
 use Rattle.run.specs.declared.Event.the-variants.{Release, Tick}
@@ -20,20 +21,18 @@ overAll f (a ∷ rest) = f a + overAll f rest
 
 -- what a taken tick counts, by the job that left
 abbrev pub byLeft : (Left → ℕ) → Answer → ℕ
-byLeft f Started = 0
 byLeft f (Released j) = 0
 byLeft f (Ticked a) = f (a .left)
 byLeft f (No why) = 0
 
--- "A release adds one job at the back of its task's queue": jobs released, of any task and of task k
+-- "A release adds one job at the back of its task's queue": jobs released, of any task and of task
+-- k
 abbrev pub release : Answer → ℕ
-release Started = 0
 release (Released j) = 1
 release (Ticked a) = 0
 release (No why) = 0
 
 abbrev pub releaseBy : ℕ → Answer → ℕ
-releaseBy k Started = 0
 releaseBy k (Released j) = one j k
 releaseBy k (Ticked a) = 0
 releaseBy k (No why) = 0
@@ -70,7 +69,6 @@ cutOf k = overAll (byLeft (λ l. cutBy l k))
 
 -- "On entering D2 every waiting LO job is discarded and counted."
 abbrev pub discarded : Answer → ℕ
-discarded Started = 0
 discarded (Released j) = 0
 discarded (Ticked a) = a .discarded
 discarded (No why) = 0
@@ -78,10 +76,9 @@ discarded (No why) = 0
 abbrev pub discardedIn : List Answer → ℕ
 discardedIn = overAll discarded
 
--- Those of task k. An answer tells how many were discarded, not of which tasks, so this is read off the run at the
--- ticks taken.
+-- Those of task k. An answer tells how many were discarded, not of which tasks, so this is read off
+-- the run at the ticks taken.
 abbrev pub ifTicked : Answer → ℕ → ℕ
-ifTicked Started n = 0
 ifTicked (Released j) n = 0
 ifTicked (Ticked a) n = n
 ifTicked (No why) n = 0

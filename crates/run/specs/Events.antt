@@ -1,6 +1,5 @@
 -- A run takes events one after the other, in any order. Each is taken or refused, and answered.
 use mathlib.Core.List.{List, [], _∷_}
-use Prim.Native.Nat.{ℕ}
 use Rattle.run.specs.declared.Run.{Run}
 use Rattle.run.specs.declared.Event.{Event}
 use Rattle.run.specs.declared.Event.the-variants.{Release, Tick}

@@ -1,8 +1,6 @@
 -- The table of document 01's example, as rows.
 use mathlib.Core.List.{List, [], _∷_}
 use Prim.Native.Nat.{ℕ}
-use Rattle.units.specs.declared.Ticks.{Ticks}
-use Rattle.units.specs.declared.Micros.{Micros}
 use Rattle.table.specs.declared.Kind.{Kind}
 use Rattle.table.specs.declared.Kind.the-variants.{Event, Timed}
 use Rattle.table.specs.declared.Level.{Level}

@@ -5,4 +5,6 @@ pub mod Release
 pub mod Tick
 pub mod Events
 pub mod Count
+pub mod Values
+pub mod Many
 pub mod Example

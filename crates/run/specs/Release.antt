@@ -1,21 +1,22 @@
 -- A fresh start and a release, with what is refused.
-use mathlib.Core.Bool.{Bool, not, _&&_}
+use mathlib.Core.Bool.{not, _&&_}
 use Prim.Native.Nat.{ℕ, _+_}
-use lib.Dec.{leb, ltb}
+use lib.Dec.{ltb}
 use lib.ListN.{set}
 use Rattle.laws.specs.Choice.{unless_say_else_}
 use Rattle.table.specs.declared.Table.{Table}
 use Rattle.table.specs.declared.Refusal.{Refusal}
 use Rattle.table.specs.declared.Refusal.the-variants.{NoTask, LowInD2, QueueFull, CountSpent, Unsound}
-use Rattle.table.specs.Rows.{taskAt, isLow}
+use Rattle.table.specs.Rows.{taskAt, isLow, isD2}
 use Rattle.table.specs.Rules.{tableKeeps}
 use Rattle.run.specs.declared.State.{State}
 use Rattle.run.specs.declared.Run.{Run}
-use Rattle.run.specs.declared.Answer.{Answer}
-use Rattle.run.specs.declared.Answer.the-variants.{Started, Released, No}
+use Rattle.run.specs.declared.Answer.the-variants.{Released, No}
+use Rattle.run.specs.declared.Starting.the-variants.{Started, Refused}
+use Rattle.run.specs.declared.Begun.{Begun}
 use Rattle.run.specs.declared.Answered.{Answered}
 use Rattle.run.specs.State.{waitingAt, withQueues, withCounts, fresh}
-use Rattle.run.specs.Sound.{sound, isD2}
+use Rattle.run.specs.Sound.{sound}
 
 -- a refusal: "state as it was", "it, as it was"
 abbrev pub refused : Run → Refusal → Answered
@@ -25,10 +26,11 @@ refused r why = record { answer = No why; run = r }
 abbrev pub freshRun : Table → Run
 freshRun t = record { table = t; state = fresh }
 
--- Start afresh with a table, or 13: no state was handed in, so what comes back is the table as it was, beside a fresh state.
-unfoldable pub startOf : Table → Answered
+-- Start afresh with a table, or 13: no state was handed in, so what comes back is the table as it
+-- was, beside a fresh state.
+unfoldable pub startOf : Table → Begun
 startOf t =
-    unless tableKeeps t say refused (freshRun t) Unsound
+    unless tableKeeps t say record { answer = Refused Unsound; run = freshRun t }
     else record { answer = Started; run = freshRun t }
 
 -- "A release adds one job at the back of its task's queue; releases are never merged."

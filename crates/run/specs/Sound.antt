@@ -5,12 +5,8 @@ use Prim.Native.Nat.{ℕ}
 use lib.Dec.{leb, ltb, eqb}
 use Rattle.laws.specs.Choice.{if_then_else_, every}
 use Rattle.laws.specs.Rows.{allBelow, sumBelow}
-use Rattle.table.specs.declared.ByMode.{ByMode}
-use Rattle.table.specs.declared.Level.{Level}
-use Rattle.table.specs.declared.Mode.{Mode}
-use Rattle.table.specs.declared.Mode.the-variants.{N, D1, D2}
 use Rattle.table.specs.declared.Table.{Table}
-use Rattle.table.specs.Rows.{serverAt, taskAt, periodAt, limitAt, isLow}
+use Rattle.table.specs.Rows.{serverAt, taskAt, periodAt, limitAt, largest, isLow, isD2}
 use Rattle.table.specs.Rules.{tableKeeps}
 use Rattle.run.specs.declared.Last.{Last}
 use Rattle.run.specs.declared.Last.the-variants.{NoJob, Job}
@@ -18,18 +14,13 @@ use Rattle.run.specs.declared.State.{State}
 use Rattle.run.specs.declared.Run.{Run}
 use Rattle.run.specs.State.{usedAt, elapsedAt, waitingAt, runsAt, taskWaits}
 
-abbrev pub larger : ℕ → ℕ → ℕ
-larger a b = if ltb a b then b else a
-
-abbrev pub largest : ByMode → ℕ
-largest x = larger (larger (x .n .0) (x .d1 .0)) (x .d2 .0)
-
--- "each server's elapsed count is at most its period, and its used count at most elapsed and at most its largest capacity"
+-- "each server's elapsed count is at most its period, and its used count at most elapsed and at
+-- most its largest capacity"
 unfoldable pub soundServer : Table → State → ℕ → List Bool
 soundServer t s i =
     leb (elapsedAt s i) (periodAt t i)
     ∷ leb (usedAt s i) (elapsedAt s i)
-    ∷ leb (usedAt s i) (largest (serverAt t i .capacity))
+    ∷ leb (usedAt s i) (largest (serverAt t i .capacity) .0)
     ∷ []
 
 -- task k is the last-run one
@@ -37,12 +28,8 @@ abbrev pub isLast : Last → ℕ → Bool
 isLast NoJob k = false
 isLast (Job j) k = eqb j k
 
-abbrev pub isD2 : Mode → Bool
-isD2 N = false
-isD2 D1 = false
-isD2 D2 = true
-
--- "the front job's run count is 0 if none waits and else below the limit of the present mode, or equal to it for the last-run job"
+-- "the front job's run count is 0 if none waits and else below the limit of the present mode, or
+-- equal to it for the last-run job"
 unfoldable pub soundFront : Table → State → ℕ → Bool
 soundFront t s k =
     if taskWaits s k
@@ -57,16 +44,18 @@ soundTask t s k =
     ∷ not (isD2 (s .mode) && (isLow (taskAt t k .level) && taskWaits s k))
     ∷ []
 
--- "the last-run task, if any, has a waiting job with run count at least 1, and a tick has been taken"
+-- "the last-run task, if any, has a waiting job with run count at least 1, and a tick has been
+-- taken"
 unfoldable pub soundLast : Table → State → Last → Bool
 soundLast t s NoJob = true
 soundLast t s (Job k) =
-    every (ltb k (t .ntasks) ∷ taskWaits s k ∷ leb 1 (runsAt s k) ∷ leb 1 (s .ticks) ∷ [])
+    every (ltb k (t .ntasks) ∷ taskWaits s k ∷ leb 1 (runsAt s k) ∷ leb 1 (s .ticks .0) ∷ [])
 
--- "the counts of taken ticks and accepted releases are within 10's bounds, the latter not below the jobs waiting"
+-- "the counts of taken ticks and accepted releases are within 10's bounds, the latter not below the
+-- jobs waiting"
 unfoldable pub soundCounts : Table → State → List Bool
 soundCounts t s =
-    leb (s .ticks) 4000000000
+    leb (s .ticks .0) 4000000000
     ∷ leb (s .accepted) 4000000000
     ∷ leb (sumBelow (t .ntasks) (waitingAt s)) (s .accepted)
     ∷ []

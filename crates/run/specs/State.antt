@@ -5,6 +5,7 @@ use Prim.Native.Nat.{ℕ}
 use lib.Dec.{ltb, eqb}
 use lib.ListN.{getD, replicate}
 use Rattle.laws.specs.Rows.{anyBelow}
+use Rattle.units.specs.declared.Ticks.{Ticks}
 use Rattle.table.specs.declared.Mode.{Mode}
 use Rattle.table.specs.declared.Mode.the-variants.{N, D1, D2}
 use Rattle.table.specs.declared.Task.{Task}
@@ -104,7 +105,7 @@ withLast s l =
     }
 
 -- the counts of taken ticks and of accepted releases
-abbrev pub withCounts : State → ℕ → ℕ → State
+abbrev pub withCounts : State → Ticks → ℕ → State
 withCounts s ticks accepted =
     record {
       mode = s .mode;
@@ -127,6 +128,6 @@ fresh =
       waiting = replicate 64 0;
       runs = replicate 64 0;
       last = NoJob;
-      ticks = 0;
+      ticks = record { 0 = 0 };
       accepted = 0;
     }

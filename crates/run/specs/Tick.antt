@@ -1,13 +1,13 @@
 -- 01, What one tick does, step by step.
 use mathlib.Core.Bool.{Bool, true, false, not, _&&_, _||_}
-use mathlib.Core.List.{List}
 use Prim.Native.Nat.{ℕ, zero, suc, _+_, _-_}
-use lib.Dec.{leb, ltb, eqb}
+use lib.Dec.{ltb, eqb}
 use lib.ListN.{set}
 use Rattle.laws.specs.declared.Found.{Found}
 use Rattle.laws.specs.declared.Found.the-variants.{At, Nothing}
 use Rattle.laws.specs.Choice.{if_then_else_, unless_say_else_}
 use Rattle.laws.specs.Rows.{sumBelow, highest, anew}
+use Rattle.units.specs.declared.Ticks.{Ticks}
 use Rattle.table.specs.declared.Level.{Level}
 use Rattle.table.specs.declared.Level.the-variants.{LO, MI, HI}
 use Rattle.table.specs.declared.Mode.{Mode}
@@ -15,24 +15,27 @@ use Rattle.table.specs.declared.Mode.the-variants.{N, D1, D2}
 use Rattle.table.specs.declared.Task.{Task}
 use Rattle.table.specs.declared.Table.{Table}
 use Rattle.table.specs.declared.Refusal.the-variants.{NoJobRan, CountSpent, Unsound}
-use Rattle.table.specs.Rows.{serverAt, taskAt, inMode, periodAt, priorityAt, capacityAt, taskPriorityAt, isTimed, isLow}
+use Rattle.table.specs.Rows.{serverAt, taskAt, inMode, periodAt, priorityAt, capacityAt, taskPriorityAt, isTimed, isLow, isD2}
 use Rattle.run.specs.declared.Last.{Last}
 use Rattle.run.specs.declared.Last.the-variants.{NoJob, Job}
 use Rattle.run.specs.declared.State.{State}
 use Rattle.run.specs.declared.Run.{Run}
 use Rattle.run.specs.declared.Turn.{Turn}
 use Rattle.run.specs.declared.Turn.the-variants.{Run as Ran, Empty, Idle}
+use Rattle.run.specs.declared.Judged.{Judged}
 use Rattle.run.specs.declared.Left.{Left}
 use Rattle.run.specs.declared.Left.the-variants.{Nobody, Done, Cut}
 use Rattle.run.specs.declared.TickAnswer.{TickAnswer}
 use Rattle.run.specs.declared.Answer.the-variants.{Ticked}
 use Rattle.run.specs.declared.Answered.{Answered}
-use Rattle.run.specs.State.{usedAt, elapsedAt, waitingAt, runsAt, taskWaits, waitsFor, waits, someWaits, withMode, withBudgets, withQueues, withLast, withCounts}
-use Rattle.run.specs.Sound.{sound, isD2}
+use Rattle.run.specs.State.{usedAt, elapsedAt, waitingAt, runsAt, waitsFor, waits, someWaits, withMode, withBudgets}
+use Rattle.run.specs.State.{withQueues, withLast, withCounts}
+use Rattle.run.specs.Sound.{sound}
 use Rattle.run.specs.Answers.{charged, ran}
 use Rattle.run.specs.Release.{refused}
 
--- Step 1. "in N the mode rises to D1; in D1 it rises to D2 for a MI or HI task, else the job is cut; in D2 the job is cut"
+-- Step 1. "in N the mode rises to D1; in D1 it rises to D2 for a MI or HI task, else the job is
+-- cut; in D2 the job is cut"
 
 -- what becomes of a job at its limit
 pub data AtLimit : Type 0 where
@@ -46,21 +49,16 @@ atLimit D1 MI = rises D2
 atLimit D1 HI = rises D2
 atLimit D2 l = isCut
 
--- the mode after a job was judged, and whether it was cut
-pub record Judged : Type 0 where
-  pub mode : Mode
-  pub cut : Bool
-
 abbrev pub onward : (Mode → Judged) → Mode → AtLimit → Judged
 onward again m (rises m′) = again m′
 onward again m isCut = record { mode = m; cut = true }
 
--- "Mark 0 and its run count equals its limit in the present mode: .. After a rise, judge again at the new limit." The job is of
--- task k and has run c ticks; it is judged at most so many times.
+-- "Mark 0 and its run count equals its limit in the present mode: .. After a rise, judge again at
+-- the new limit." The job is of task k and has run c ticks; it is judged at most so many times.
 unfoldable pub judge : ℕ → Task → ℕ → Mode → Judged
 judge zero k c m = record { mode = m; cut = false }
 judge (suc n) k c m =
-    if eqb c (inMode (k .limit) m)
+    if eqb c (inMode (k .limit) m .0)
     then onward (judge n k c) m (atLimit m (k .level))
     else record { mode = m; cut = false }
 
@@ -84,7 +82,8 @@ judged s k j =
     then record { state = withoutFront (withMode s (j .mode)) k; left = Cut k }
     else record { state = withMode s (j .mode); left = Nobody }
 
--- "step 1 only if the last taken tick ran a job". There are three modes, so a job is judged at most three times.
+-- "step 1 only if the last taken tick ran a job". There are three modes, so a job is judged at most
+-- three times.
 unfoldable pub step1 : Table → State → Bool → Last → Marked
 step1 t s mark NoJob = record { state = s; left = Nobody }
 step1 t s true (Job k) = finished s k
@@ -124,8 +123,9 @@ step4 t s =
     (anew (t .nservers) (λ i u. if refills t s i then 0 else u) (s .used))
     (anew (t .nservers) (λ i e. if refills t s i then 0 else e) (s .elapsed))
 
--- What step 5 finds: the state after steps 1 to 4, with "the mode of a tick, the capacities in force in it and who has a waiting
--- job at it"; beside it the job that left and what step 2 discarded, by task.
+-- What step 5 finds: the state after steps 1 to 4, with "the mode of a tick, the capacities in
+-- force in it and who has a waiting job at it"; beside it the job that left and what step 2
+-- discarded, by task.
 pub record Settled : Type 0 where
   pub state : State
   pub left : Left
@@ -140,7 +140,8 @@ settle t s mark =
       discarded = discards t (s .mode) (one .state);
     }
 
--- Step 5. "Able servers: used below capacity in the present mode, and timed, or with a waiting job. The highest is charged"
+-- Step 5. "Able servers: used below capacity in the present mode, and timed, or with a waiting job.
+-- The highest is charged"
 unfoldable pub able : Table → State → ℕ → Bool
 able t s i = ltb (usedAt s i) (capacityAt t (s .mode) i) && (isTimed (serverAt t i .kind) || waits t s i)
 
@@ -151,7 +152,8 @@ highestAble t s = highest (t .nservers) (able t s) (priorityAt t)
 unfoldable pub highestTask : Table → State → ℕ → Found
 highestTask t s i = highest (t .ntasks) (waitsFor t s i) (taskPriorityAt t)
 
--- "Each taken tick says one of three things: `run` with server and task, `empty` with the timed server charged, or `idle`."
+-- "Each taken tick says one of three things: `run` with server and task, `empty` with the timed
+-- server charged, or `idle`."
 abbrev pub turnOf : ℕ → Found → Turn
 turnOf i (At k) = Ran i k
 turnOf i Nothing = Empty i
@@ -163,26 +165,35 @@ turnFor task Nothing = Idle
 unfoldable pub choose : Table → State → Turn
 choose t s = turnFor (highestTask t s) (highestAble t s)
 
--- Steps 5 to 7, as they change the state. "used plus 1", "run count plus 1", "All elapsed counts and the tick number rise by 1."
+-- What steps 5 to 7 change, the tick saying `turn`.
+-- Step 5. "The highest is charged: used plus 1."
+abbrev pub step5 : Table → State → Turn → State
+step5 t s turn = withBudgets s (anew (t .nservers) (λ i u. u + charged turn i) (s .used)) (s .elapsed)
+
+-- the job that is run in this tick is the last-run job of the next
 abbrev pub lastOf : Turn → Last
 lastOf (Ran i k) = Job k
 lastOf (Empty i) = NoJob
 lastOf Idle = NoJob
 
-unfoldable pub advance : Table → State → Turn → State
-advance t s turn =
+-- Step 6. "runs the front job: run count plus 1"
+abbrev pub step6 : Table → State → Turn → State
+step6 t s turn =
+    withLast (withQueues s (s .waiting) (anew (t .ntasks) (λ k c. c + ran turn k) (s .runs))) (lastOf turn)
+
+-- Step 7. "All elapsed counts and the tick number rise by 1."
+abbrev pub step7 : Table → State → State
+step7 t s =
     withCounts
-    (withLast
-    (withQueues
-    (withBudgets s (anew (t .nservers) (λ i u. u + charged turn i) (s .used)) (anew (t .nservers) (λ i e. e + 1) (s .elapsed)))
-    (s .waiting)
-    (anew (t .ntasks) (λ k c. c + ran turn k) (s .runs)))
-    (lastOf turn))
-    (s .ticks + 1)
+    (withBudgets s (s .used) (anew (t .nservers) (λ i e. e + 1) (s .elapsed)))
+    (record { 0 = s .ticks .0 + 1 })
     (s .accepted)
 
+unfoldable pub advance : Table → State → Turn → State
+advance t s turn = step7 t (step6 t (step5 t s turn) turn)
+
 -- "With it go the mode, the job that left and how, and the number discarded."
-abbrev pub tickAnswer : Table → ℕ → Settled → TickAnswer
+abbrev pub tickAnswer : Table → Ticks → Settled → TickAnswer
 tickAnswer t tick z =
     record {
       tick = tick;
@@ -215,5 +226,5 @@ unfoldable pub tickOf : Run → Bool → Answered
 tickOf r mark =
     unless sound r say refused r Unsound
     else unless not mark || ranJob (r .state .last) say refused r NoJobRan
-    else unless ltb (r .state .ticks) 4000000000 say refused r CountSpent
+    else unless ltb (r .state .ticks .0) 4000000000 say refused r CountSpent
     else ticked r (tickTaken (r .table) (r .state) mark)

@@ -1,8 +1,14 @@
-// The run: a table with its state, the events, and what is answered to them. (01, What one tick does.)
+// The run: a table with its state, the events, and what is answered to them. (01, What one tick
+// does.)
 
 use table::Mode;
 use table::Refusal;
+use table::SERVERS;
+use table::TASKS;
 use table::Table;
+use units::Ticks;
+ghost use mathlib.Core.Path.{_≡_};
+ghost use Prim.Native.Nat.{_<_};
 
 // At most so many jobs of one task wait.
 pub const QUEUE: u8 = 16;
@@ -15,15 +21,16 @@ pub enum Last {
     Job(usize),
 }
 
-// The counts of a run, row by row. A task's queue is the number of its waiting jobs and the run count of the front one.
+// The counts of a run, row by row. A task's queue is the number of its waiting jobs and the run
+// count of the front one.
 pub struct State {
     pub mode: Mode,
-    pub used: [u32; 32],
-    pub elapsed: [u32; 32],
-    pub waiting: [u8; 64],
-    pub runs: [u32; 64],
+    pub used: [u32; SERVERS],
+    pub elapsed: [u32; SERVERS],
+    pub waiting: [u8; TASKS],
+    pub runs: [u32; TASKS],
     pub last: Last,
-    pub ticks: u32,
+    pub ticks: Ticks,
     pub accepted: u32,
 }
 
@@ -40,6 +47,12 @@ pub enum Turn {
     Idle,
 }
 
+// The mode after a job was judged, and whether it was cut.
+pub struct Judged {
+    pub mode: Mode,
+    pub cut: bool,
+}
+
 // The job that left, by its task, and how.
 pub enum Left {
     Nobody,
@@ -47,9 +60,10 @@ pub enum Left {
     Cut(usize),
 }
 
-// What goes with a taken tick: its number, the mode that step 5 found, and how many jobs step 2 discarded.
+// What goes with a taken tick: its number, the mode that step 5 found, and how many jobs step 2
+// discarded.
 pub struct TickAnswer {
-    pub tick: u32,
+    pub tick: Ticks,
     pub mode: Mode,
     pub turn: Turn,
     pub left: Left,
@@ -61,9 +75,19 @@ pub enum Event {
     Tick(bool),
 }
 
-// What is answered to a start or an event.
-pub enum Answer {
+// What is answered to a start.
+pub enum Starting {
     Started,
+    Refused(Refusal),
+}
+
+pub struct Begun {
+    pub answer: Starting,
+    pub run: Run,
+}
+
+// What is answered to an event.
+pub enum Answer {
     Released(usize),
     Ticked(TickAnswer),
     No(Refusal),
@@ -72,4 +96,42 @@ pub enum Answer {
 pub struct Answered {
     pub answer: Answer,
     pub run: Run,
+}
+
+// What a line of an event file says.
+pub enum EventLine {
+    Of(Event),
+    Another,
+}
+
+// What an answer tells: the paper's number for no, or the answer itself.
+pub enum Told {
+    No(u64),
+    Released(usize),
+    Ticked(TickAnswer),
+}
+
+// Event lines and what is told to them, as plain numbers, so that many can be lent at once: so many
+// numbers each. Which they are is in specs/Values.antt.
+pub const LINE_VALUES: usize = 2;
+
+pub const TOLD_VALUES: usize = 9;
+
+// Whether many event lines were taken, or why none of them was.
+pub enum Taking {
+    Taken,
+    Refused(Refusal),
+}
+
+// What is handed back for many event lines: the run after them.
+pub struct Many {
+    pub answer: Taking,
+    pub run: Run,
+}
+
+// A number of jobs, to be added up.
+pub fn job_count(x: u8) -> u32
+    ensures { λ r. ⌜ (r ≡ x) × (r < 256) ⌝ }
+{
+    x as u32
 }

@@ -1,4 +1,5 @@
--- Soundness by rows, as the code asks it: only contracts of inner functions cite this. `Rattle.run.specs.Sound` says it.
+-- Soundness by rows, as the code asks it: only contracts of inner functions cite this.
+-- `Rattle.run.specs.Sound` says it.
 use mathlib.Core.Bool.{Bool, not, _&&_, _||_}
 use mathlib.Core.List.{List, [], _∷_}
 use Prim.Native.Nat.{ℕ}
@@ -9,20 +10,20 @@ use Rattle.table.specs.declared.Mode.{Mode}
 use Rattle.table.specs.declared.Server.{Server}
 use Rattle.table.specs.declared.Table.{Table}
 use Rattle.table.specs.declared.Task.{Task}
-use Rattle.table.specs.Rows.{inMode, isLow}
+use Rattle.table.specs.Rows.{inMode, largest, isLow, isD2}
 use Rattle.run.specs.declared.State.{State}
-use Rattle.run.specs.Sound.{largest, isD2, soundServer, soundTask}
+use Rattle.run.specs.Sound.{soundServer, soundTask}
 
 -- of a server's row, its used count and its elapsed count
 unfoldable pub serverTests : Server → ℕ → ℕ → List Bool
 serverTests s used elapsed =
-    leb elapsed (s .period .0) ∷ leb used elapsed ∷ leb used (largest (s .capacity)) ∷ []
+    leb elapsed (s .period .0) ∷ leb used elapsed ∷ leb used (largest (s .capacity) .0) ∷ []
 
 -- of a task's row, its waiting jobs, the front one's run count, and whether it is the last-run task
 abbrev pub frontTest : Task → Mode → ℕ → ℕ → Bool → Bool
 frontTest k m waiting runs last =
     if ltb 0 waiting
-    then ltb runs (inMode (k .limit) m) || last && eqb runs (inMode (k .limit) m)
+    then ltb runs (inMode (k .limit) m .0) || last && eqb runs (inMode (k .limit) m .0)
     else eqb runs 0
 
 unfoldable pub taskTests : Task → Mode → ℕ → ℕ → Bool → List Bool

@@ -1,46 +1,32 @@
-// Whether a state is sound. (01, Numbers for no: "A state is sound (else 13) if ..") Asked once, at the door.
+// Whether a state is sound. (01, Numbers for no: "A state is sound (else 13) if ..") Asked once, at
+// the door.
 
 use run::Last;
 use run::MOST;
 use run::QUEUE;
 use run::State;
-use table::ByMode;
 use table::Level;
 use table::Mode;
 use table::Server;
+use table::TASKS;
 use table::Table;
 use table::Task;
 ghost use mathlib.Core.Path.{_≡_};
 ghost use mathlib.Core.Bool.{_&&_};
-ghost use Prim.Native.Nat.{_≤_, _<_};
+ghost use Prim.Native.Nat.{_≤_};
 ghost use lib.Dec.{ltb};
 ghost use lib.ListN.{getD};
 ghost use Rattle.laws.specs.Choice.{every};
 ghost use Rattle.laws.specs.Rows.{sumBelow};
-ghost use Rattle.table.specs.Rows.{isLow};
-ghost use Rattle.run.specs.Sound.{larger, largest, isLast, isD2, soundLast, soundCounts, sound};
+ghost use Rattle.table.specs.Rows.{isLow, isD2};
+ghost use Rattle.run.specs.Sound.{isLast, soundLast, soundCounts, sound};
 ghost use Rattle.soundness.specs.Inner.{serverTests, frontTest, taskTests, serversSound, tasksSound};
-
-fn larger_of(a: u32, b: u32) -> u32
-    ensures { λ r. ⌜ r ≡ larger a b ⌝ }
-{
-    if a < b {
-        return b;
-    }
-    a
-}
-
-fn largest_of(x: ByMode) -> u32
-    ensures { λ r. ⌜ r ≡ largest x ⌝ }
-{
-    larger_of(larger_of(x.n.0, x.d1.0), x.d2.0)
-}
 
 fn server_sound(s: Server, used: u32, elapsed: u32) -> bool
     ensures { λ r. ⌜ r ≡ every (serverTests s used elapsed) ⌝ }
 {
     let c = s.capacity;
-    let most = largest_of(c);
+    let most = table::largest_of(c).0;
     laws::all_of(&[elapsed <= s.period.0, used <= elapsed, used <= most])
 }
 
@@ -73,7 +59,7 @@ fn front_sound(k: Task, m: Mode, waiting: u8, runs: u32, last: bool) -> bool
     if waiting == 0 {
         return runs == 0;
     }
-    let limit = table::in_mode(x, m);
+    let limit = table::in_mode(x, m).0;
     if runs < limit {
         return true;
     }
@@ -83,20 +69,10 @@ fn front_sound(k: Task, m: Mode, waiting: u8, runs: u32, last: bool) -> bool
     false
 }
 
-pub fn is_d2(m: Mode) -> bool
-    ensures { λ r. ⌜ r ≡ isD2 m ⌝ }
-{
-    match m {
-        Mode::N => false,
-        Mode::D1 => false,
-        Mode::D2 => true,
-    }
-}
-
 fn low_waits(m: Mode, l: Level, waiting: u8) -> bool
     ensures { λ r. ⌜ r ≡ (isD2 m && (isLow l && ltb 0 waiting)) ⌝ }
 {
-    if !is_d2(m) {
+    if !table::is_d2(m) {
         return false;
     }
     if !table::is_low(l) {
@@ -141,26 +117,19 @@ fn last_sound(t: Table, s: State) -> bool
             if t.ntasks <= k {
                 return false;
             }
-            laws::all_of(&[true, 0 < s.waiting[k], 1 <= s.runs[k], 1 <= s.ticks])
+            laws::all_of(&[true, 0 < s.waiting[k], 1 <= s.runs[k], 1 <= s.ticks.0])
         }
     }
 }
 
-// A number of jobs, to be added up.
-pub fn jobs(x: u8) -> u32
-    ensures { λ r. ⌜ (r ≡ x) × (r < 256) ⌝ }
-{
-    x as u32
-}
-
 // How many jobs wait.
-fn jobs_waiting(n: usize, waiting: [u8; 64]) -> u32
+fn jobs_waiting(n: usize, waiting: [u8; TASKS]) -> u32
     requires { ⌜ n ≤ 64 ⌝ }
     ensures { λ r. ⌜ r ≡ sumBelow n (λ k. getD waiting k 0) ⌝ }
 {
     let mut count: u32 = 0;
     for k in 0..n {
-        count += jobs(waiting[k]);
+        count += run::job_count(waiting[k]);
     }
     count
 }
@@ -171,7 +140,7 @@ fn counts_sound(t: Table, s: State) -> bool
 {
     let waiting = s.waiting;
     let jobs = jobs_waiting(t.ntasks, waiting);
-    laws::all_of(&[s.ticks <= MOST, s.accepted <= MOST, jobs <= s.accepted])
+    laws::all_of(&[s.ticks.0 <= MOST, s.accepted <= MOST, jobs <= s.accepted])
 }
 
 pub fn run_sound(t: Table, s: State) -> bool

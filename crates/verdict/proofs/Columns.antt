@@ -1,5 +1,6 @@
--- What the servers of the columns ask of r ticks: it never falls as r grows, since a round-up does not, and it is small, since a
--- round-up times the period is less than one period past what is rounded. Assumes nothing.
+-- What the servers of the columns ask of r ticks: it never falls as r grows, since a round-up does
+-- not, and it is small, since a round-up times the period is less than one period past what is
+-- rounded. Assumes nothing.
 use mathlib.Core.Path.{_≡_, refl}
 use mathlib.Core.List.{List}
 use Prim.Native.Nat.{ℕ, zero, suc, _+_, _*_, _-_, _≤_, _<_}
@@ -36,7 +37,8 @@ module _ (periods capacities late : List ℕ) where
   unfolding interferenceIn sumBelow
   in-none r = refl
 
-  pub in-next : (r i x q : ℕ) → x ≡ interferenceIn i periods capacities late r → q ≡ up (r + getD late i 0) (getD periods i 0) →
+  pub in-next : (r i x q : ℕ) → x ≡ interferenceIn i periods capacities late r →
+      q ≡ up (r + getD late i 0) (getD periods i 0) →
       x + q * getD capacities i 0 ≡ interferenceIn (i + 1) periods capacities late r
   unfolding interferenceIn
   in-next r i x q e f = rw (e, f, sum-next (askedAt r) i)
@@ -47,11 +49,13 @@ module _ (periods capacities late : List ℕ) where
     unfolding interferenceIn
     in-le r i h l =
         sum-most (askedAt r) 3000000 i
-        (λ j m. part-le (up (r + getD late j 0) (getD periods j 0)) r (getD periods j 0) (getD capacities j 0) (getD late j 0) refl
+        (λ j m. part-le (up (r + getD late j 0) (getD periods j 0)) r (getD periods j 0) (getD capacities j 0)
+        (getD late j 0) refl
         (k .server j (omega arith)) h)
 
     -- "I(R)" never falls as R grows
-    pub in-rises : (r x : ℕ) → r ≤ x → interferenceIn n periods capacities late r ≤ interferenceIn n periods capacities late x
+    pub in-rises : (r x : ℕ) → r ≤ x →
+        interferenceIn n periods capacities late r ≤ interferenceIn n periods capacities late x
     unfolding interferenceIn
     in-rises r x h =
         sum-le (askedAt r) (askedAt x) n

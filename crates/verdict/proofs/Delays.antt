@@ -1,5 +1,5 @@
--- The columns of the servers that delay a row, as a loop over the rows builds them: what stands in them asks what the rows
--- passed ask. Assumes nothing.
+-- The columns of the servers that delay a row, as a loop over the rows builds them: what stands in
+-- them asks what the rows passed ask. Assumes nothing.
 use mathlib.Core.Path.{_≡_, refl, _∙_}
 use mathlib.Core.Bool.{Bool, true, false}
 use mathlib.Core.List.{List}
@@ -41,10 +41,12 @@ demand-none Event t c r e = rw e (omega arith)
 
 module _ (t : Table) (m : Mode) (i r j : ℕ) where
   -- a row of higher priority adds what it asks, none where it has no capacity
-  part-higher : (c l : ℕ) → priorityAt t i < priorityAt t j → c ≡ capacityAt t m j → l ≡ lateOf (serverAt t j .kind) (periodAt t j) c →
+  part-higher : (c l : ℕ) → priorityAt t i < priorityAt t j → c ≡ capacityAt t m j →
+      l ≡ lateOf (serverAt t j .kind) (periodAt t j) c →
       up (r + l) (periodAt t j) * c ≡ partAt t m i r j
   part-higher c l h e f =
-      rw (f, e, lt-ltb (priorityAt t i) (priorityAt t j) h) (demand-late (serverAt t j .kind) (periodAt t j) (capacityAt t m j) r)
+      rw (f, e, lt-ltb (priorityAt t i) (priorityAt t j) h)
+      (demand-late (serverAt t j .kind) (periodAt t j) (capacityAt t m j) r)
 
   part-none : capacityAt t m j ≡ 0 → partAt t m i r j ≡ 0
   part-none e = go (ltb (priorityAt t i) (priorityAt t j))
@@ -56,7 +58,8 @@ module _ (t : Table) (m : Mode) (i r j : ℕ) where
 -- one server more in the columns
 module _ (periods capacities late : List ℕ) (n p c l : ℕ) (a : n < length periods) (b : n < length capacities) (d : n < length late) where
   bounded-more : ((j : ℕ) → j < n → Bounded (getD periods j 0) (getD capacities j 0) (getD late j 0)) → Bounded p c l →
-      (j : ℕ) → j < n + 1 → Bounded (getD (set periods n p) j 0) (getD (set capacities n c) j 0) (getD (set late n l) j 0)
+      (j : ℕ) → j < n + 1 → Bounded (getD (set periods n p) j 0) (getD (set capacities n c) j 0)
+      (getD (set late n l) j 0)
   bounded-more f q =
       below-more (λ j. Bounded (getD (set periods n p) j 0) (getD (set capacities n c) j 0) (getD (set late n l) j 0)) n
       (λ j h.
@@ -75,7 +78,8 @@ module _ (periods capacities late : List ℕ) (n p c l : ℕ) (a : n < length pe
       rw (getD-set-other periods n j p 0 z, getD-set-other capacities n j c 0 z, getD-set-other late n j l 0 z) in
       sum-next (askedAt (set periods n p) (set capacities n c) (set late n l) r) n
       ∙ rw (
-        sum-cong (askedAt (set periods n p) (set capacities n c) (set late n l) r) (askedAt periods capacities late r) n same,
+        sum-cong (askedAt (set periods n p) (set capacities n c) (set late n l) r)
+            (askedAt periods capacities late r) n same,
         getD-set-same periods n p 0 a,
         getD-set-same capacities n c 0 b,
         getD-set-same late n l 0 d,
@@ -91,7 +95,8 @@ pub record Passed (t : Table) (m : Mode) (k i n : ℕ) (periods capacities late 
   pub asks : (r : ℕ) → interferenceIn n periods capacities late r ≡ sumBelow i (partAt t m k r)
 
 module _ (t : Table) (m : Mode) (k : ℕ) (periods capacities late : List ℕ) where
-  pub none-passed : length periods ≡ 32 → length capacities ≡ 32 → length late ≡ 32 → Passed t m k 0 0 periods capacities late
+  pub none-passed : length periods ≡ 32 → length capacities ≡ 32 → length late ≡ 32 →
+      Passed t m k 0 0 periods capacities late
   unfolding interferenceIn sumBelow
   none-passed p c l =
       record {

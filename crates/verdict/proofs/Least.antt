@@ -1,5 +1,5 @@
--- The climb to the response: what it stops at is the least number that meets the inequality, since the interference never falls.
--- Assumes nothing.
+-- The climb to the response: what it stops at is the least number that meets the inequality, since
+-- the interference never falls. Assumes nothing.
 use mathlib.Core.Path.{_≡_, sym, _∙_}
 use mathlib.Core.Bool.{Bool}
 use mathlib.Core.List.{List}

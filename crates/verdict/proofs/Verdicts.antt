@@ -1,5 +1,5 @@
--- 01, Verdicts, as theorems on the definition, so on the code: what a verdict says is read off the search that gives it.
--- Assumes nothing.
+-- 01, Verdicts, as theorems on the definition, so on the code: what a verdict says is read off the
+-- search that gives it. Assumes nothing.
 use mathlib.Core.Path.{_≡_, refl, sym, ap, _∙_}
 use mathlib.Core.Bool.{true, false}
 use mathlib.Core.Logic.{_⊎_, inl, inr, _↔_}
@@ -8,7 +8,6 @@ use native.Mathlib.Omega.{arith}
 use borrow.Author.Tests.{lt-ltb, le-ltb, leb-true, leb-false, le-leb, eq-eqb, ne-eqb}
 use Rattle.laws.specs.declared.Found.{Found}
 use Rattle.laws.specs.declared.Found.the-variants.{At, Nothing}
-use Rattle.laws.specs.Choice.{if_then_else_}
 use Rattle.laws.specs.Search.{least}
 use Rattle.laws.proofs.Choice.{true-or-false, le-or-lt}
 use Rattle.laws.proofs.Search.{hit, miss, is-least, found-passes, found-first, none-passes}
@@ -87,7 +86,8 @@ module _ (t : Table) (m : Mode) (i : ℕ) where
           1
           (periodAt t i)
           (At r)
-          (hit r (l .from-one) (omega (arith, l .to-period)) (is-met r (l .meets)) (λ x k u. is-missed x (l .none-below x k u))))
+          (hit r (l .from-one) (omega (arith, l .to-period)) (is-met r (l .meets))
+          (λ x k u. is-missed x (l .none-below x k u))))
 
   pub no-response : 0 < capacityAt t m i →
       (responseAt t m i ≡ Nothing) ↔ ((x : ℕ) → 1 ≤ x → x ≤ periodAt t i → Meets t m i x → ⊥)
@@ -167,7 +167,8 @@ module _ (t : Table) (m : Mode) (i : ℕ) where
       go (served e h f) v = absurd (told-no (responseAt t m i) NoServer (sym f ∙ v))
 
   -- a response is given to a row of a sound table, and is the search's
-  response-told : (r : Ticks) → verdictOf t i m ≡ Response r → (tableKeeps t ≡ true) × (i < t .nservers) × (responseAt t m i ≡ At (r .0))
+  response-told : (r : Ticks) → verdictOf t i m ≡ Response r →
+      (tableKeeps t ≡ true) × (i < t .nservers) × (responseAt t m i ≡ At (r .0))
   response-told r v = go (way t m i)
     where
       go : Way t m i → (tableKeeps t ≡ true) × (i < t .nservers) × (responseAt t m i ≡ At (r .0))
@@ -205,7 +206,8 @@ module _ (t : Table) (m : Mode) (i : ℕ) where
       some e (inl h) = let f = unsearched t m i (omega arith) in let z : _≡_ {A = ℕ} 0 1 = cc in absurd (omega arith)
       some e (inr h) = h
 
-      go : Way t m i → verdictOf t i m ≡ Misses → Served t m i × ((x : ℕ) → 1 ≤ x → x ≤ periodAt t i → Meets t m i x → ⊥)
+      go : Way t m i → verdictOf t i m ≡ Misses →
+          Served t m i × ((x : ℕ) → 1 ≤ x → x ≤ periodAt t i → Meets t m i x → ⊥)
       go (unsound e f) v = let z : _≡_ {A = ℕ} 0 1 = cc in absurd (omega arith)
       go (absent e h f) v = let z : _≡_ {A = ℕ} 0 1 = cc in absurd (omega arith)
       go (served e h f) v =

@@ -1,5 +1,5 @@
--- Only contracts of inner functions cite this file; a buyer need not read it. It says which numbers stand in the columns of the
--- servers that delay a row, and what these servers ask.
+-- Only contracts of inner functions cite this file; a buyer need not read it. It says which numbers
+-- stand in the columns of the servers that delay a row, and what these servers ask.
 use mathlib.Core.Path.{_≡_}
 use mathlib.Core.Bool.{Bool}
 use mathlib.Core.List.{List}

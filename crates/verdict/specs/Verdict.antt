@@ -1,5 +1,5 @@
 -- 01, Verdicts.
-use mathlib.Core.Bool.{Bool, true, false, not}
+use mathlib.Core.Bool.{Bool}
 use Prim.Native.Nat.{ℕ, _+_, _*_, _-_}
 use lib.Dec.{leb, ltb, eqb}
 use Rattle.laws.specs.declared.Found.{Found}
@@ -18,7 +18,8 @@ use Rattle.table.specs.Rules.{tableKeeps}
 use Rattle.verdict.specs.declared.Verdict.{Verdict}
 use Rattle.verdict.specs.declared.Verdict.the-variants.{Response, Misses, No}
 
--- "the round-up of R/Tj times Cj for timed ones and the round-up of (R + Tj - Cj)/Tj times Cj for event ones"
+-- "the round-up of R/Tj times Cj for timed ones and the round-up of (R + Tj - Cj)/Tj times Cj for
+-- event ones"
 abbrev pub demand : Kind → ℕ → ℕ → ℕ → ℕ
 demand Timed period capacity r = up r period * capacity
 demand Event period capacity r = up (r + (period - capacity)) period * capacity
@@ -36,7 +37,8 @@ interference t m i r =
 unfoldable pub meets : Table → Mode → ℕ → ℕ → Bool
 meets t m i r = leb (capacityAt t m i + interference t m i r) r
 
--- "For capacity 0 the response is 0. Else it is the least R from 1 to the period T with C + I(R) <= R, all in one mode"
+-- "For capacity 0 the response is 0. Else it is the least R from 1 to the period T with C + I(R) <=
+-- R, all in one mode"
 unfoldable pub responseAt : Table → Mode → ℕ → Found
 responseAt t m i = if eqb (capacityAt t m i) 0 then At 0 else least (meets t m i) 1 (periodAt t i)
 

@@ -12,6 +12,7 @@ use laws::Found;
 use table::Kind;
 use table::Mode;
 use table::Refusal;
+use table::SERVERS;
 use table::Table;
 use units::Ticks;
 
@@ -22,13 +23,14 @@ pub enum Verdict {
     No(Refusal),
 }
 
-// The servers that delay a row in a mode, one after the other: those of higher priority that have capacity. `late` has the
-// late-then-early term of each. They are numbers in columns, made once and lent, since a climb may take a million steps.
+// The servers that delay a row in a mode, one after the other: those of higher priority that have
+// capacity. `late` has the late-then-early term of each. They are numbers in columns, made once and
+// lent, since a climb may take a million steps.
 struct Higher {
     count: usize,
-    periods: [u32; 32],
-    capacities: [u32; 32],
-    late: [u32; 32],
+    periods: [u32; SERVERS],
+    capacities: [u32; SERVERS],
+    late: [u32; SERVERS],
 }
 
 // The round-up of a / t.
@@ -39,8 +41,8 @@ fn round_up(a: u32, t: u32) -> u32
     (a + (t - 1)) / t
 }
 
-// "the deferrable server's late-then-early term T - C": an event server may be charged late in one period and early in the
-// next; a timed one may not.
+// "the deferrable server's late-then-early term T - C": an event server may be charged late in one
+// period and early in the next; a timed one may not.
 fn late_of(kind: Kind, period: u32, capacity: u32) -> u32
     requires { ⌜ capacity ≤ period ⌝ }
     ensures { λ r. ⌜ r ≡ lateOf kind period capacity ⌝ }
@@ -58,16 +60,16 @@ fn higher_than(t: Table, row: usize, m: Mode) -> Higher
 {
     let priority = t.servers[row].priority;
     let n = t.nservers;
-    let mut periods = [0u32; 32];
-    let mut capacities = [0u32; 32];
-    let mut late = [0u32; 32];
+    let mut periods = [0u32; SERVERS];
+    let mut capacities = [0u32; SERVERS];
+    let mut late = [0u32; SERVERS];
     let mut count = 0;
     for i in 0..n {
         let s = t.servers[i];
         let c = s.capacity;
         let kind = s.kind;
         let period = s.period.0;
-        let capacity = table::in_mode(c, m);
+        let capacity = table::in_mode(c, m).0;
         if s.priority <= priority || capacity == 0 {
             continue;
         }
@@ -87,9 +89,9 @@ fn higher_than(t: Table, row: usize, m: Mode) -> Higher
 // I(r): what the servers of these columns ask of r ticks.
 fn interference_in<'a>(
     count: usize,
-    periods: &'a [u32; 32],
-    capacities: &'a [u32; 32],
-    late: &'a [u32; 32],
+    periods: &'a [u32; SERVERS],
+    capacities: &'a [u32; SERVERS],
+    late: &'a [u32; SERVERS],
     r: u32,
 ) -> u32
     requires { ⌜ Columns count (now periods) (now capacities) (now late) × (r ≤ 1000000) ⌝ }
@@ -102,13 +104,13 @@ fn interference_in<'a>(
     sum
 }
 
-// The least r from 1 to the period that meets the inequality. I never falls as r grows, so what is below C + I(r) misses
-// where r does: the next number to try is C + I(r) itself.
+// The least r from 1 to the period that meets the inequality. I never falls as r grows, so what is
+// below C + I(r) misses where r does: the next number to try is C + I(r) itself.
 fn climb<'a>(
     count: usize,
-    periods: &'a [u32; 32],
-    capacities: &'a [u32; 32],
-    late: &'a [u32; 32],
+    periods: &'a [u32; SERVERS],
+    capacities: &'a [u32; SERVERS],
+    late: &'a [u32; SERVERS],
     capacity: u32,
     period: u32,
 ) -> Found
@@ -133,7 +135,7 @@ fn response(t: Table, row: usize, m: Mode) -> Found
 {
     let s = t.servers[row];
     let c = s.capacity;
-    let capacity = table::in_mode(c, m);
+    let capacity = table::in_mode(c, m).0;
     let period = s.period.0;
     if capacity == 0 {
         return Found::At(0);

@@ -1,4 +1,5 @@
--- `scheduler::sound::counts_sound` meets its contract: the list lent is the list of the rule. Assumes nothing.
+-- `soundness::counts_sound` meets its contract: the list lent is the list of the rule. Assumes
+-- nothing.
 use Rattle.run.specs.Sound.{soundCounts}
 use borrow.Author.Needs.{needs}
 use Rattle.soundness.proofs.counts_sound.Statement.{statement}

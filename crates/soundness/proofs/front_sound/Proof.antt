@@ -1,4 +1,4 @@
--- `scheduler::sound::front_sound` meets its contract: the tests in their order. Assumes nothing.
+-- `soundness::front_sound` meets its contract: the tests in their order. Assumes nothing.
 use native.Mathlib.Omega.{arith}
 use borrow.Author.Tests.{lt-ltb, le-ltb}
 use borrow.Author.Needs.{needs}

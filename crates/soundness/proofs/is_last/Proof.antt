@@ -1,4 +1,4 @@
--- `scheduler::sound::is_last` meets its contract. Assumes nothing.
+-- `soundness::is_last` meets its contract. Assumes nothing.
 use borrow.Author.Needs.{needs}
 use Rattle.soundness.proofs.is_last.Statement.{statement}
 use Rattle.soundness.proofs.is_last.Tie as tie

@@ -1,4 +1,4 @@
--- `scheduler::sound::jobs_waiting` meets its contract: the sum of the rows passed. Assumes nothing.
+-- `soundness::jobs_waiting` meets its contract: the sum of the rows passed. Assumes nothing.
 use mathlib.Core.Path.{_≡_, refl, ap, sym, _∙_}
 use Prim.Native.Nat.{_+_, _*_, _-_, _≤_}
 use native.Mathlib.Omega.{arith}
@@ -19,11 +19,11 @@ loop-holds : tie.Need-loop-holds Inv-loop μ-loop
 unfolding sumBelow
 loop-holds c = (omega arith, omega arith, refl)
 
-array-read-jobs : tie.Need-array-read-jobs Inv-loop μ-loop
-array-read-jobs c = omega arith
+array-read-job-count : tie.Need-array-read-job-count Inv-loop μ-loop
+array-read-job-count c = omega arith
 
-jobs-requires : tie.Need-jobs-requires Inv-loop μ-loop
-jobs-requires c κs = tt
+job-count-requires : tie.Need-job-count-requires Inv-loop μ-loop
+job-count-requires c κs = tt
 
 add-count : tie.Need-add-count Inv-loop μ-loop
 add-count c = omega arith
@@ -39,8 +39,8 @@ loop-again c =
     let l = c .before .before .loop in
     let w = c .before .before .before .args .t2 in (
       omega arith,
-      omega (arith, c .jobs .ensures .0, c .jobs .ensures .1),
-      ap (λ x. l .count + x) (c .jobs .ensures .0)
+      omega (arith, c .job-count .ensures .0, c .job-count .ensures .1),
+      ap (λ x. l .count + x) (c .job-count .ensures .0)
           ∙ ap (λ x. x + getD w (l .k) 0) (l .inv .2)
           ∙ sym (sum-next (λ j. getD w j 0) (l .k)),
     )
@@ -51,14 +51,5 @@ returns c = let e : c .before .loop .k ≡ c .before .before .args .n = omega ar
 pub jobs-waiting-spec : {M : Type 1} → statement M
 jobs-waiting-spec =
     tie.close
-    (tie.spec
-    Inv-loop
-    μ-loop
-    loop-holds
-    array-read-jobs
-    jobs-requires
-    add-count
-    add-k
-    loop-less
-    loop-again
-    returns)
+    (tie.spec Inv-loop μ-loop loop-holds array-read-job-count job-count-requires add-count add-k
+    loop-less loop-again returns)

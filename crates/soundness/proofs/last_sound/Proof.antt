@@ -1,6 +1,6 @@
--- `scheduler::sound::last_sound` meets its contract, case by case. Assumes nothing.
+-- `soundness::last_sound` meets its contract, case by case. Assumes nothing.
 use mathlib.Core.Path.{_∙_}
-use Rattle.soundness.proofs.Checks.{last-none, last-absent, last-there}
+use Rattle.soundness.proofs.Inner.{last-none, last-absent, last-there}
 use borrow.Author.Needs.{needs}
 use Rattle.soundness.proofs.last_sound.Statement.{statement}
 use Rattle.soundness.proofs.last_sound.Tie as tie
@@ -48,14 +48,5 @@ returns-3 c =
 pub last-sound-spec : {M : Type 1} → statement M
 last-sound-spec =
     tie.close
-    (tie.spec
-    enum-told
-    enum-known-last
-    returns
-    element-copy-out-t11
-    mul-t12
-    element-copy-out-t15
-    slice-aggregate-all-of
-    all-of-requires
-    returns-2
-    returns-3)
+    (tie.spec enum-told enum-known-last returns element-copy-out-t11 mul-t12 element-copy-out-t15
+    slice-aggregate-all-of all-of-requires returns-2 returns-3)

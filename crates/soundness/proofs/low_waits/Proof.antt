@@ -1,4 +1,4 @@
--- `scheduler::sound::low_waits` meets its contract: the tests in their order. Assumes nothing.
+-- `soundness::low_waits` meets its contract: the tests in their order. Assumes nothing.
 use mathlib.Core.Path.{sym, _∙_}
 use borrow.Author.Tests.{not-true, not-false}
 use borrow.Author.Needs.{needs}

@@ -1,10 +1,10 @@
--- `scheduler::sound::run_sound` meets its contract: the table first, so that no row past its arrays is asked for.
--- Assumes nothing.
+-- `soundness::run_sound` meets its contract: the table first, so that no row past its arrays is
+-- asked for. Assumes nothing.
 use mathlib.Core.Path.{_≡_, sym, _∙_}
 use mathlib.Core.Bool.{true}
 use borrow.Author.Tests.{not-true, not-false}
 use Rattle.table.specs.Rules.{tableKeeps}
-use Rattle.soundness.proofs.Checks.{table-breaks, state-asked, servers-fit, tasks-fit}
+use Rattle.soundness.proofs.Inner.{table-breaks, state-asked, servers-fit, tasks-fit}
 use borrow.Author.Needs.{needs}
 use Rattle.soundness.proofs.run_sound.Statement.{statement}
 use Rattle.soundness.proofs.run_sound.Tie as tie
@@ -54,13 +54,5 @@ returns-2 c =
 pub run-sound-spec : {M : Type 1} → statement M
 run-sound-spec =
     tie.close
-    (tie.spec
-    table-keeps-requires
-    returns
-    servers-sound-requires
-    tasks-sound-requires
-    last-sound-requires
-    counts-sound-requires
-    slice-aggregate-all-of
-    all-of-requires
-    returns-2)
+    (tie.spec table-keeps-requires returns servers-sound-requires tasks-sound-requires
+    last-sound-requires counts-sound-requires slice-aggregate-all-of all-of-requires returns-2)

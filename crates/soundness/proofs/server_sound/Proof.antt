@@ -1,4 +1,5 @@
--- `scheduler::sound::server_sound` meets its contract: the list lent is the list of the rule. Assumes nothing.
+-- `soundness::server_sound` meets its contract: the list lent is the list of the rule. Assumes
+-- nothing.
 use Rattle.soundness.specs.Inner.{serverTests}
 use borrow.Author.Needs.{needs}
 use Rattle.soundness.proofs.server_sound.Statement.{statement}
@@ -15,7 +16,7 @@ all-of-requires c κs = search needs
 
 returns : tie.Need-returns
 unfolding serverTests
-returns c = cc
+returns c = rw (c .all-of .ensures, c .before .before .before .largest-of .ensures)
 
 pub server-sound-spec : {M : Type 1} → statement M
 server-sound-spec =

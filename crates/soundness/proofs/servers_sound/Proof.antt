@@ -1,5 +1,5 @@
--- `scheduler::sound::servers_sound` meets its contract: each row passed is sound, so the first that is not decides.
--- Assumes nothing.
+-- `soundness::servers_sound` meets its contract: each row passed is sound, so the first that is not
+-- decides. Assumes nothing.
 use mathlib.Core.Path.{_≡_, sym, _∙_}
 use mathlib.Core.Bool.{true}
 use Prim.Native.Nat.{_-_, _≤_}
@@ -9,7 +9,7 @@ use Rattle.laws.specs.Choice.{every}
 use Rattle.laws.proofs.Rows.{all-none, all-more, all-fails}
 use Rattle.run.specs.Sound.{soundServer}
 use Rattle.soundness.specs.Inner.{serversSound}
-use Rattle.soundness.proofs.Checks.{server-tests}
+use Rattle.soundness.proofs.Inner.{server-tests}
 use Rattle.soundness.proofs.servers_sound.Statement.{statement}
 use Rattle.soundness.proofs.servers_sound.Tie as tie
 
@@ -75,19 +75,6 @@ returns-2 c =
 pub servers-sound-spec : {M : Type 1} → statement M
 servers-sound-spec =
     tie.close
-    (tie.spec
-    Inv-loop
-    μ-loop
-    loop-holds
-    mul-row
-    element-copy-out-row
-    mul-server-sound
-    element-copy-out-server-sound
-    mul-server-sound-2
-    element-copy-out-server-sound-2
-    server-sound-requires
-    returns
-    add-i
-    loop-less
-    loop-again
-    returns-2)
+    (tie.spec Inv-loop μ-loop loop-holds mul-row element-copy-out-row mul-server-sound
+    element-copy-out-server-sound mul-server-sound-2 element-copy-out-server-sound-2
+    server-sound-requires returns add-i loop-less loop-again returns-2)

@@ -1,4 +1,5 @@
--- `scheduler::sound::task_sound` meets its contract: the list lent is the list of the rule. Assumes nothing.
+-- `soundness::task_sound` meets its contract: the list lent is the list of the rule. Assumes
+-- nothing.
 use Rattle.soundness.specs.Inner.{taskTests}
 use borrow.Author.Needs.{needs}
 use Rattle.soundness.proofs.task_sound.Statement.{statement}
@@ -23,9 +24,5 @@ returns c = cc
 pub task-sound-spec : {M : Type 1} → statement M
 task-sound-spec =
     tie.close
-    (tie.spec
-    front-sound-requires
-    low-waits-requires
-    slice-aggregate-all-of
-    all-of-requires
+    (tie.spec front-sound-requires low-waits-requires slice-aggregate-all-of all-of-requires
     returns)

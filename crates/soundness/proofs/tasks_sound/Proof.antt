@@ -1,5 +1,5 @@
--- `scheduler::sound::tasks_sound` meets its contract: each row passed is sound, so the first that is not decides.
--- Assumes nothing.
+-- `soundness::tasks_sound` meets its contract: each row passed is sound, so the first that is not
+-- decides. Assumes nothing.
 use mathlib.Core.Path.{_≡_, sym, _∙_}
 use mathlib.Core.Bool.{true}
 use Prim.Native.Nat.{_-_, _≤_}
@@ -9,7 +9,7 @@ use Rattle.laws.specs.Choice.{every}
 use Rattle.laws.proofs.Rows.{all-none, all-more, all-fails}
 use Rattle.run.specs.Sound.{soundTask}
 use Rattle.soundness.specs.Inner.{tasksSound}
-use Rattle.soundness.proofs.Checks.{task-tests}
+use Rattle.soundness.proofs.Inner.{task-tests}
 use Rattle.soundness.proofs.tasks_sound.Statement.{statement}
 use Rattle.soundness.proofs.tasks_sound.Tie as tie
 
@@ -67,7 +67,8 @@ loop-again c =
       omega arith,
       all-more (λ j. every (soundTask (a .t1) (a .t2) j)) (l .k) (l .inv .1)
           (task-tests (a .t1) (a .t2) (l .k)
-          ∙ rw (← c .before .before .before .before .is-last .ensures) (sym (c .before .task-sound .ensures) ∙ not-false _ (c .if1 .left))),
+          ∙ rw (← c .before .before .before .before .is-last .ensures)
+          (sym (c .before .task-sound .ensures) ∙ not-false _ (c .if1 .left))),
     )
 
 returns-2 : tie.Need-returns-2 Inv-loop μ-loop
@@ -78,19 +79,6 @@ returns-2 c =
 pub tasks-sound-spec : {M : Type 1} → statement M
 tasks-sound-spec =
     tie.close
-    (tie.spec
-    Inv-loop
-    μ-loop
-    loop-holds
-    mul-row
-    element-copy-out-row
-    is-last-requires
-    element-copy-out-task-sound
-    mul-task-sound
-    element-copy-out-task-sound-2
-    task-sound-requires
-    returns
-    add-k
-    loop-less
-    loop-again
-    returns-2)
+    (tie.spec Inv-loop μ-loop loop-holds mul-row element-copy-out-row is-last-requires
+    element-copy-out-task-sound mul-task-sound element-copy-out-task-sound-2 task-sound-requires
+    returns add-k loop-less loop-again returns-2)

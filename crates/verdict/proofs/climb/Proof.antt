@@ -1,5 +1,6 @@
--- `verdict::climb` meets its contract. The loop's invariant: no number from 1 on and below r meets the inequality; the climbing
--- law keeps it. The measure is what is left of the period. Assumes nothing.
+-- `verdict::climb` meets its contract. The loop's invariant: no number from 1 on and below r meets
+-- the inequality; the climbing law keeps it. The measure is what is left of the period. Assumes
+-- nothing.
 use Prim.Native.Nat.{suc, _-_, _≤_}
 use native.Mathlib.Omega.{arith}
 use borrow.Author.Needs.{needs}
@@ -19,8 +20,11 @@ abbrev μ-loop : tie.MeasureT-loop
 
 loop-holds : tie.Need-loop-holds Inv-loop μ-loop
 loop-holds c =
-    let a = c .args in
-    (omega arith, climb-start (meetsIn (a .count) (a .periods .now) (a .capacities .now) (a .late .now) (a .capacity)) 1)
+    let a = c .args in (
+      omega arith,
+      climb-start (meetsIn (a .count) (a .periods .now) (a .capacities .now) (a .late .now)
+          (a .capacity)) 1,
+    )
 
 interference-in-requires : tie.Need-interference-in-requires Inv-loop μ-loop
 interference-in-requires c κs = let b = c .before .before in (b .pre .0, omega (arith, b .pre .2))
@@ -37,7 +41,8 @@ add-next c =
             b .pre .0 .few,
             b .pre .1,
             b .pre .2,
-            in-le (a .periods .now) (a .capacities .now) (a .late .now) (a .count) (b .pre .0) (c .before .before .loop .r) (a .count)
+            in-le (a .periods .now) (a .capacities .now) (a .late .now) (a .count) (b .pre .0)
+                (c .before .before .loop .r) (a .count)
                 (omega (arith, b .pre .2, c .before .loop-test .taken))
                 (omega arith),
           );
@@ -91,19 +96,11 @@ returns-2 : tie.Need-returns-2 Inv-loop μ-loop
 returns-2 c =
     let a = c .before .before .args in
     let l = c .before .loop in
-    found-none (a .count) (a .periods .now) (a .capacities .now) (a .late .now) (a .capacity) (l .r) (a .period) (omega arith) (l .inv .1)
+    found-none (a .count) (a .periods .now) (a .capacities .now) (a .late .now) (a .capacity) (l .r) (a .period)
+    (omega arith) (l .inv .1)
 
 pub climb-spec : {M : Type 1} → statement M
 climb-spec =
     tie.close
-    (tie.spec
-    Inv-loop
-    μ-loop
-    loop-holds
-    interference-in-requires
-    add-next
-    cast-t11
-    returns
-    loop-less
-    loop-again
-    returns-2)
+    (tie.spec Inv-loop μ-loop loop-holds interference-in-requires add-next cast-t11 returns
+    loop-less loop-again returns-2)

@@ -1,13 +1,14 @@
--- `verdict::higher_than` meets its contract. The loop's invariant: the servers in the columns are those of the rows passed that
--- delay the row. The measure is the rows left. Assumes nothing.
-use mathlib.Core.Path.{_≡_, refl, sym, _∙_}
+-- `verdict::higher_than` meets its contract. The loop's invariant: the servers in the columns are
+-- those of the rows passed that delay the row. The measure is the rows left. Assumes nothing.
+use mathlib.Core.Path.{_≡_, refl, sym, ap, _∙_}
 use mathlib.Core.Logic.{⊎-elim}
 use Prim.Native.Nat.{_≤_, _<_, _-_}
 use native.Mathlib.Omega.{arith}
 use lib.ListN.{length-map}
 use borrow.Author.Tests.{eqb-true}
 use borrow.Author.Needs.{needs}
-use Rattle.table.specs.Parts.{Sized}
+use Rattle.units.specs.declared.Ticks.{Ticks}
+use Rattle.table.specs.Inner.{Sized}
 use Rattle.table.proofs.Rules.{ServerRules, table-rules}
 use Rattle.verdict.proofs.Delays.{Passed, none-passed, lower-passed, idle-passed, higher-passed, all-passed}
 use Rattle.verdict.proofs.higher_than.Statement.{statement}
@@ -68,10 +69,12 @@ loop-again c =
     let a = d .before .before .before .before .before .args in (
       omega arith,
       ⊎-elim
-          (λ w. lower-passed (a .t1) (a .m) (a .row) (l .periods) (l .capacities) (l .late) (l .i) (l .count) (l .inv .1) (w .taken))
-          (λ w. idle-passed (a .t1) (a .m) (a .row) (l .periods) (l .capacities) (l .late) (l .i) (l .count) (l .inv .1) (d .in-mode .result)
-          (d .in-mode .ensures)
-          (eqb-true (d .in-mode .result) 0 (w .1 .taken)))
+          (λ w. lower-passed (a .t1) (a .m) (a .row) (l .periods) (l .capacities) (l .late) (l .i) (l .count)
+          (l .inv .1) (w .taken))
+          (λ w. idle-passed (a .t1) (a .m) (a .row) (l .periods) (l .capacities) (l .late) (l .i) (l .count)
+          (l .inv .1) (d .in-mode .result .0)
+          (ap (λ (x : Ticks). x .0) (d .in-mode .ensures))
+          (eqb-true (d .in-mode .result .0) 0 (w .1 .taken)))
           (c .if1 .came),
     )
 
@@ -94,7 +97,8 @@ array-write-capacities c = room (c .before .before .before .before .before .befo
 late-of-requires : tie.Need-late-of-requires Inv-loop μ-loop
 late-of-requires c κs =
     let d = c .before .before .before in
-    omega (arith, d .in-mode .ensures, rules (d .before .before .before) .capacity (d .before .before .before .before .before .args .m))
+    let b = d .before .before .before in
+    omega (arith, ap (λ (x : Ticks). x .0) (d .in-mode .ensures), rules b .capacity (b .before .before .args .m))
 
 mul-late : tie.Need-mul-late Inv-loop μ-loop
 mul-late c = omega (arith, room (c .before .before .before .before .before .before .before))
@@ -118,11 +122,12 @@ loop-again-2 c =
     let l = r .before .loop in
     let a = r .before .before .args in (
       omega arith,
-      higher-passed (a .t1) (a .m) (a .row) (l .periods) (l .capacities) (l .late) (l .i) (l .count) (l .inv .1) (d .in-mode .result) (c .late-of .result)
+      higher-passed (a .t1) (a .m) (a .row) (l .periods) (l .capacities) (l .late) (l .i) (l .count) (l .inv .1)
+          (d .in-mode .result .0) (c .late-of .result)
           (omega (arith, few (r .before .before), r .loop-test .taken))
           (rules r)
           (c .before .before .if1 .left)
-          (d .in-mode .ensures)
+          (ap (λ (x : Ticks). x .0) (d .in-mode .ensures))
           (c .late-of .ensures),
     )
 
@@ -132,32 +137,13 @@ returns c =
     let b = c .before .before in
     let a = b .args in
     let e : l .i ≡ a .t1 .nservers = omega arith in
-    all-passed (a .t1) (a .m) (a .row) (l .periods) (l .capacities) (l .late) (l .i) (l .count) (l .inv .1) e (omega (arith, few b))
+    all-passed (a .t1) (a .m) (a .row) (l .periods) (l .capacities) (l .late) (l .i) (l .count) (l .inv .1) e
+    (omega (arith, few b))
 
 pub higher-than-spec : {M : Type 1} → statement M
 higher-than-spec =
     tie.close
-    (tie.spec
-    Inv-loop
-    μ-loop
-    mul-priority
-    element-copy-out-priority
-    loop-holds
-    mul-s
-    element-copy-out-s
-    in-mode-requires
-    add-i
-    loop-less
-    loop-again
-    mul-periods
-    array-write-periods
-    mul-capacities
-    array-write-capacities
-    late-of-requires
-    mul-late
-    array-write-late
-    add-count
-    add-i-2
-    loop-less-2
-    loop-again-2
-    returns)
+    (tie.spec Inv-loop μ-loop mul-priority element-copy-out-priority loop-holds mul-s
+    element-copy-out-s in-mode-requires add-i loop-less loop-again mul-periods array-write-periods
+    mul-capacities array-write-capacities late-of-requires mul-late array-write-late add-count
+    add-i-2 loop-less-2 loop-again-2 returns)

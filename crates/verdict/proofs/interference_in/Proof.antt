@@ -1,5 +1,6 @@
--- `verdict::interference_in` meets its contract. The loop's invariant: the sum is that of the servers passed, so it is at most
--- 3,000,000 for each of them. The measure is the servers left. Assumes nothing.
+-- `verdict::interference_in` meets its contract. The loop's invariant: the sum is that of the
+-- servers passed, so it is at most 3,000,000 for each of them. The measure is the servers left.
+-- Assumes nothing.
 use mathlib.Core.Path.{_≡_}
 use Prim.Native.Nat.{_+_, _*_, _≤_, _-_}
 use native.Mathlib.Omega.{arith}
@@ -65,7 +66,8 @@ next : (c : tie.After-round-up Inv-loop μ-loop) →
 next c =
     let a = c .before .before .before .before .before .args in
     let l = c .before .before .before .before .loop in
-    in-next (a .periods .now) (a .capacities .now) (a .late .now) (a .r) (l .i) (l .sum) (c .round-up .result) (l .inv .1) (c .round-up .ensures)
+    in-next (a .periods .now) (a .capacities .now) (a .late .now) (a .r) (l .i) (l .sum) (c .round-up .result)
+    (l .inv .1) (c .round-up .ensures)
 
 -- and the servers up to this one ask for little
 small : (c : tie.After-round-up Inv-loop μ-loop) →
@@ -80,7 +82,8 @@ small c =
       arith,
       next c,
       few b,
-      in-le (a .periods .now) (a .capacities .now) (a .late .now) (a .count) (b .pre .0) (a .r) (i + 1) (b .pre .1) (omega arith),
+      in-le (a .periods .now) (a .capacities .now) (a .late .now) (a .count) (b .pre .0) (a .r) (i + 1) (b .pre .1)
+          (omega arith),
     )
 
 mul-sum-2 : tie.Need-mul-sum-2 Inv-loop μ-loop
@@ -106,21 +109,6 @@ returns c =
 pub interference-in-spec : {M : Type 1} → statement M
 interference-in-spec =
     tie.close
-    (tie.spec
-    Inv-loop
-    μ-loop
-    loop-holds
-    mul-round-up
-    element-copy-out-round-up
-    add-round-up
-    mul-round-up-2
-    element-copy-out-round-up-2
-    round-up-requires
-    mul-sum
-    element-copy-out-sum
-    mul-sum-2
-    add-sum
-    add-i
-    loop-less
-    loop-again
-    returns)
+    (tie.spec Inv-loop μ-loop loop-holds mul-round-up element-copy-out-round-up add-round-up
+    mul-round-up-2 element-copy-out-round-up-2 round-up-requires mul-sum element-copy-out-sum
+    mul-sum-2 add-sum add-i loop-less loop-again returns)

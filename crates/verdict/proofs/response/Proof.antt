@@ -1,10 +1,12 @@
--- `verdict::response` meets its contract: without capacity it is 0, else what the climb finds. Assumes nothing.
-use mathlib.Core.Path.{sym, _∙_}
+-- `verdict::response` meets its contract: without capacity it is 0, else what the climb finds.
+-- Assumes nothing.
+use mathlib.Core.Path.{sym, ap, _∙_}
 use Prim.Native.Nat.{_≤_}
 use native.Mathlib.Omega.{arith}
 use lib.ListN.{length-map}
 use borrow.Author.Needs.{needs}
-use Rattle.table.specs.Parts.{Sized}
+use Rattle.units.specs.declared.Ticks.{Ticks}
+use Rattle.table.specs.Inner.{Sized}
 use Rattle.table.proofs.Rules.{table-rules}
 use Rattle.verdict.proofs.Least.{response-zero, response-else}
 use Rattle.verdict.proofs.response.Statement.{statement}
@@ -32,7 +34,8 @@ in-mode-requires c κs = search needs
 returns : tie.Need-returns
 returns c =
     let a = c .before .before .before .before .args in
-    response-zero (a .t1) (a .m) (a .row) (c .before .in-mode .result) (c .before .in-mode .ensures) (c .if1 .taken)
+    response-zero (a .t1) (a .m) (a .row) (c .before .in-mode .result .0)
+    (ap (λ (x : Ticks). x .0) (c .before .in-mode .ensures)) (c .if1 .taken)
 
 higher-than-requires : tie.Need-higher-than-requires
 higher-than-requires c κs = search needs
@@ -42,26 +45,29 @@ climb-requires c κs =
     let d = c .before .before .before .before in
     let e = d .before .before in
     let b = e .before .before .before in
-    let row = table-rules (b .args .t1) (size b) (b .pre .0) .server (b .args .row) (b .pre .1) in
-    (d .higher-than .ensures .columns, omega (arith, e .in-mode .ensures, row .capacity (b .args .m)), row .period-high)
+    let row = table-rules (b .args .t1) (size b) (b .pre .0) .server (b .args .row) (b .pre .1) in (
+      d .higher-than .ensures .columns,
+      omega (
+        arith,
+        ap (λ (x : Ticks). x .0) (e .in-mode .ensures),
+        row .capacity
+            (b .args .m),
+      ),
+      row .period-high,
+    )
 
 returns-2 : tie.Need-returns-2
 returns-2 c =
     let d = c .before .before .before .before .before in
     let e = d .before .before in
     let a = e .before .before .before .args in
-    response-else (a .t1) (a .m) (a .row) (e .in-mode .result) (d .higher-than .result) (c .climb .result) (e .in-mode .ensures) (d .before .if1 .left)
+    response-else (a .t1) (a .m) (a .row) (e .in-mode .result .0) (d .higher-than .result) (c .climb .result)
+    (ap (λ (x : Ticks). x .0) (e .in-mode .ensures)) (d .before .if1 .left)
     (d .higher-than .ensures)
     (c .climb .ensures)
 
 pub response-spec : {M : Type 1} → statement M
 response-spec =
     tie.close
-    (tie.spec
-    mul-s
-    element-copy-out-s
-    in-mode-requires
-    returns
-    higher-than-requires
-    climb-requires
+    (tie.spec mul-s element-copy-out-s in-mode-requires returns higher-than-requires climb-requires
     returns-2)

@@ -1,5 +1,5 @@
--- `verdict::round_up` meets its contract: it is the definition's own sum and quotient, and the bounds keep the sum small.
--- Assumes nothing.
+-- `verdict::round_up` meets its contract: it is the definition's own sum and quotient, and the
+-- bounds keep the sum small. Assumes nothing.
 use borrow.Author.Needs.{needs}
 use Rattle.laws.specs.RoundUp.{up}
 use Rattle.verdict.proofs.round_up.Statement.{statement}

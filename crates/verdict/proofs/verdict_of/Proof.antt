@@ -1,5 +1,5 @@
--- `verdict::verdict_of` meets its contract: the two tests of the door are the definition's, and a response is at most the
--- period, so it fits a tick count. Assumes nothing.
+-- `verdict::verdict_of` meets its contract: the two tests of the door are the definition's, and a
+-- response is at most the period, so it fits a tick count. Assumes nothing.
 use mathlib.Core.Path.{_≡_, sym, ap, _∙_}
 use mathlib.Core.Bool.{true}
 use Prim.Native.Nat.{_<_}
@@ -8,7 +8,7 @@ use lib.ListN.{length-map}
 use borrow.Author.Tests.{not-true, not-false}
 use borrow.Author.Needs.{needs}
 use Rattle.table.specs.Rules.{tableKeeps}
-use Rattle.table.specs.Parts.{Sized}
+use Rattle.table.specs.Inner.{Sized}
 use Rattle.table.proofs.Rules.{table-rules}
 use Rattle.verdict.specs.Verdict.{told}
 use Rattle.verdict.proofs.Verdicts.{response-most, verdict-unsound, verdict-absent, verdict-told}
@@ -19,7 +19,8 @@ use Rattle.verdict.proofs.verdict_of.Tie as tie
 sound : (c : tie.Else1) → tableKeeps (c .before .before .args .t) ≡ true
 sound c = sym (c .before .table-keeps .ensures) ∙ not-false _ (c .if1 .left)
 
-there : (c : tie.Else2) → c .before .before .before .before .args .row < c .before .before .before .before .args .t .nservers
+there : (c : tie.Else2) →
+    c .before .before .before .before .args .row < c .before .before .before .before .args .t .nservers
 there c = omega arith
 
 size : (c : tie.Start) → Sized (c .args .t)
@@ -57,7 +58,8 @@ cast-t11 c =
       fits =
           omega (
             arith,
-            response-most (a .t) (a .mode) (a .row) _ (sym (c .before .before .before .response .ensures) ∙ c .before .r .given .1),
+            response-most (a .t) (a .mode) (a .row) _
+                (sym (c .before .before .before .response .ensures) ∙ c .before .r .given .1),
             table-rules (a .t) (size b) (sound (d .before .before)) .server (a .row) (there d) .period-high,
           );
     }
@@ -84,13 +86,5 @@ returns-4 c =
 pub verdict-of-spec : {M : Type 1} → statement M
 verdict-of-spec =
     tie.close
-    (tie.spec
-    table-keeps-requires
-    returns
-    returns-2
-    response-requires
-    enum-known-r
-    cast-t11
-    enum-told
-    returns-3
-    returns-4)
+    (tie.spec table-keeps-requires returns returns-2 response-requires enum-known-r cast-t11
+    enum-told returns-3 returns-4)

@@ -1,8 +1,8 @@
--- What a reader of the page would ask of a run, each a few lines from the laws: the slips that it warns of are not
--- made. Assumes nothing.
-use mathlib.Core.Path.{_≡_, refl, ap, sym, subst, _∙_}
+-- The slips that document 01 warns of, and others that its reader would ask about, are not
+-- made, each by a few lines from the laws. Assumes nothing.
+use mathlib.Core.Path.{_≡_, refl, ap, _∙_}
 use mathlib.Core.List.{List}
-use mathlib.Core.Bool.{Bool, true, false, not}
+use mathlib.Core.Bool.{Bool, true, false}
 use Prim.Native.Nat.{ℕ, _+_, _≤_, _<_}
 use native.Mathlib.Omega.{arith}
 use lib.Dec.{eqb}
@@ -18,36 +18,36 @@ use Rattle.table.specs.declared.Mode.the-variants.{N, D1, D2}
 use Rattle.table.specs.declared.Task.{Task}
 use Rattle.table.specs.declared.Table.{Table}
 use Rattle.table.specs.Rows.{taskAt, periodAt, limitAt, inMode, isLow}
-use Rattle.table.specs.declared.Refusal.the-variants.{Unsound}
-use Rattle.table.specs.Parts.{Sized}
+use Rattle.table.specs.Inner.{Sized}
 use Rattle.table.specs.Rules.{tableKeeps}
 use Rattle.table.proofs.Rules.{TableRules, table-rules}
 use Rattle.run.specs.declared.Last.{Last}
-use Rattle.run.specs.declared.Last.the-variants.{Job}
+use Rattle.run.specs.declared.Last.the-variants.{NoJob, Job}
 use Rattle.run.specs.declared.Left.the-variants.{Nobody, Done, Cut}
 use Rattle.run.specs.declared.State.{State}
 use Rattle.run.specs.declared.Run.{Run}
 use Rattle.run.specs.declared.Event.{Event}
 use Rattle.run.specs.declared.Event.the-variants.{Release, Tick}
-use Rattle.run.specs.declared.Answer.the-variants.{Released, No}
+use Rattle.run.specs.declared.Answer.the-variants.{Released}
 use Rattle.run.specs.declared.Answered.{Answered}
 use Rattle.run.specs.State.{usedAt, elapsedAt, waitingAt, runsAt, taskWaits, someWaits, withMode}
 use Rattle.run.specs.Sound.{sound}
-use Rattle.run.specs.Answers.{one}
+use Rattle.run.specs.Answers.{noOf, finishedBy, cutBy}
 use Rattle.run.specs.Release.{freshRun, releaseOf}
-use Rattle.run.specs.Tick.{Judged, Marked, atLimit, onward, judge, judged, step1, drops, step2, step3, step4, settle, tickTaken}
+use Rattle.run.specs.declared.Judged.{Judged}
+use Rattle.run.specs.Tick.{Marked, atLimit, onward, judge, judged, step1, drops, step2, step3, step4, settle, tickTaken}
 use Rattle.run.specs.Events.{eventOf, after}
 use Rattle.run.proofs.Taken.{release-ind}
 use Rattle.run.proofs.Shape.{Shaped, RunShaped, alike-shaped, mode-alike, step1-alike, event-run-shaped}
-use Rattle.run.proofs.Tick.{used-settled, one-same}
+use Rattle.run.proofs.Tick.{used-settled, one-same, one-eq}
 use Rattle.run.proofs.Sound.{sound-table}
 use Rattle.run.proofs.Steps.{set-at, step2-mode, step2-runs, step2-counted, step3-runs}
 use Rattle.run.proofs.Kept.{waiting-released, reached-sound}
-use Rattle.run.proofs.Jobs.{discards-low}
+use Rattle.run.proofs.Count.{discards-low}
 use Rattle.run.proofs.Refused.{release-13, tick-13}
 
--- "releases are never merged": each that is taken adds one job, so two of one task add two. The front jobs and their
--- run counts stay, for the new job is at the back.
+-- "releases are never merged": each that is taken adds one job, so two of one task add two. The
+-- front jobs and their run counts stay, for the new job is at the back.
 pub release-adds : (r : Run) (k : ℕ) → RunShaped r → releaseOf r k .answer ≡ Released k →
     (waitingAt (releaseOf r k .run .state) k ≡ waitingAt (r .state) k + 1) ×
     (releaseOf r k .run .state .runs ≡ r .state .runs)
@@ -80,39 +80,39 @@ release-twice r k h e d =
       release-adds (releaseOf r k .run) k (event-run-shaped r (Release k) h) d .0,
     )
 
-set-front : (t : Table) (s : State) (k : ℕ) → k < length (s .runs) → runsAt (step1 t s true (Job k) .state) k ≡ 0
-unfolding step1
-set-front t s k l = set-at (s .runs) k 0 k l refl
-
--- First in, first out. A queue is a number of waiting jobs and the run count of the front one: a release leaves that
--- run count alone (above), only the job that was last run leaves with a mark or a cut, and the one behind it starts
--- at 0.
+-- First in, first out. A queue is a number of waiting jobs and the run count of the front one: a
+-- release leaves that run count alone (above), only the job that was last run leaves with a mark or
+-- a cut, and the one behind it starts at 0.
 pub mark-finishes : (t : Table) (s : State) (k : ℕ) → s .last ≡ Job k → settle t s true .left ≡ Done k
 unfolding settle step1
 mark-finishes t s k e = ap (λ (l : Last). step1 t s true l .left) e
 
-pub next-starts : (t : Table) (s : State) (k : ℕ) → TableRules t → Shaped s → k < t .ntasks → s .last ≡ Job k →
-    runsAt (settle t s true .state) k ≡ 0
+-- the job that left by step 1, finished or cut, was the last-run one; the next starts at 0
+gone-anew : (t : Table) (s : State) (mark : Bool) (l : Last) (k : ℕ) → k < length (s .runs) →
+    finishedBy (step1 t s mark l .left) k + cutBy (step1 t s mark l .left) k ≡ 1 → runsAt (step1 t s mark l .state) k ≡ 0
+unfolding step1
+gone-anew t s mark NoJob k l = λ e. absurd (omega arith)
+gone-anew t s true (Job j) k l =
+    λ e. let q : j ≡ k = one-eq j k (omega arith) in set-at (s .runs) j 0 k (omega arith) q
+gone-anew t s false (Job j) k l =
+    if-ind
+    (λ (z : Marked). finishedBy (z .left) k + cutBy (z .left) k ≡ 1 → runsAt (z .state) k ≡ 0)
+    (judge 3 (taskAt t j) (runsAt s j) (s .mode) .cut)
+    (λ c e. let q : j ≡ k = one-eq j k (omega arith) in set-at (s .runs) j 0 k (omega arith) q)
+    (λ c e. absurd (omega arith))
+
+pub next-starts : (t : Table) (s : State) (mark : Bool) (k : ℕ) → TableRules t → Shaped s → k < t .ntasks →
+    finishedBy (settle t s mark .left) k + cutBy (settle t s mark .left) k ≡ 1 → runsAt (settle t s mark .state) k ≡ 0
 unfolding settle step4
-next-starts t s k rules h l e =
-    step3-runs t (step2 t (s .mode) (step1 t s true (s .last) .state)) k ∙
-    step2-runs t (s .mode) (step1 t s true (s .last) .state) (rules .tasks-high)
-    (alike-shaped (step1-alike t s true (s .last)) h)
-    k
-    l ∙
-    zero (drops t (s .mode) (step1 t s true (s .last) .state) k) (gone (s .last) e)
-  where
-    gone : (m : Last) → m ≡ Job k → runsAt (step1 t s true m .state) k ≡ 0
-    gone m q =
-        subst (λ (x : Last). runsAt (step1 t s true x .state) k ≡ 0) (sym q)
-        (set-front t s k (omega (arith, h .runs, rules .tasks-high)))
+next-starts t s mark k rules h l e =
+    let one = step1 t s mark (s .last) .state in
+    step3-runs t (step2 t (s .mode) one) k ∙
+    step2-runs t (s .mode) one (rules .tasks-high) (alike-shaped (step1-alike t s mark (s .last)) h) k l ∙
+    if-ind (λ (n : ℕ). n ≡ 0) (drops t (s .mode) one k) (λ q. refl)
+    (λ q. gone-anew t s mark (s .last) k (omega (arith, h .runs, rules .tasks-high)) e)
 
-    zero : (b : Bool) {x : ℕ} → x ≡ 0 → (if b then 0 else x) ≡ 0
-    zero true q = refl
-    zero false q = q
-
--- "Used counts stay": whatever becomes of the mode, step 5 finds the used count as it was unless the period ended,
--- and then 0.
+-- "Used counts stay": whatever becomes of the mode, step 5 finds the used count as it was unless
+-- the period ended, and then 0.
 pub used-stays : (t : Table) (s : State) (mark : Bool) (i : ℕ) → i < t .nservers → t .nservers ≤ 32 → Shaped s →
     (elapsedAt s i ≡ periodAt t i → ⊥) → usedAt (settle t s mark .state) i ≡ usedAt s i
 used-stays t s mark i l few h n =
@@ -125,45 +125,47 @@ used-anew t s mark i l few h e =
     used-settled t s mark i l few h ∙
     ap (λ (b : Bool). if b then 0 else usedAt s i) (eq-eqb (elapsedAt s i) (periodAt t i) e)
 
--- "its run count equals its limit in the present mode": a job that is not at its limit stays, and so does the mode.
-pub below-limit : (k : Task) (c : ℕ) (m : Mode) → (c ≡ inMode (k .limit) m → ⊥) →
+-- "its run count equals its limit in the present mode": a job that is not at its limit stays, and
+-- so does the mode.
+pub below-limit : (k : Task) (c : ℕ) (m : Mode) → (c ≡ inMode (k .limit) m .0 → ⊥) →
     judge 3 k c m ≡ record { mode = m; cut = false }
 unfolding judge
-below-limit k c m h = rw (ne-eqb c (inMode (k .limit) m) h)
+below-limit k c m h = rw (ne-eqb c (inMode (k .limit) m .0) h)
 
 -- "in N the mode rises to D1"
-pub rises-to-D1 : (k : Task) (c : ℕ) → c ≡ inMode (k .limit) N → (c ≡ inMode (k .limit) D1 → ⊥) →
+pub rises-to-D1 : (k : Task) (c : ℕ) → c ≡ inMode (k .limit) N .0 → (c ≡ inMode (k .limit) D1 .0 → ⊥) →
     judge 3 k c N ≡ record { mode = D1; cut = false }
 unfolding judge
-rises-to-D1 k c n d = rw (eq-eqb c (inMode (k .limit) N) n, ne-eqb c (inMode (k .limit) D1) d)
+rises-to-D1 k c n d = rw (eq-eqb c (inMode (k .limit) N .0) n, ne-eqb c (inMode (k .limit) D1 .0) d)
 
 -- "in D1 it rises to D2 for a MI or HI task"
-pub rises-to-D2 : (k : Task) (c : ℕ) → isLow (k .level) ≡ false → c ≡ inMode (k .limit) D1 →
-    (c ≡ inMode (k .limit) D2 → ⊥) → judge 3 k c D1 ≡ record { mode = D2; cut = false }
+pub rises-to-D2 : (k : Task) (c : ℕ) → isLow (k .level) ≡ false → c ≡ inMode (k .limit) D1 .0 →
+    (c ≡ inMode (k .limit) D2 .0 → ⊥) → judge 3 k c D1 ≡ record { mode = D2; cut = false }
 unfolding judge
-rises-to-D2 k c low d b = rw (eq-eqb c (inMode (k .limit) D1) d) (go (k .level) low)
+rises-to-D2 k c low d b = rw (eq-eqb c (inMode (k .limit) D1 .0) d) (go (k .level) low)
   where
     go : (l : Level) → isLow l ≡ false → onward (judge 2 k c) D1 (atLimit D1 l) ≡ record { mode = D2; cut = false }
     go LO e = absurd (clash true refl e)
-    go MI e = rw (ne-eqb c (inMode (k .limit) D2) b)
-    go HI e = rw (ne-eqb c (inMode (k .limit) D2) b)
+    go MI e = rw (ne-eqb c (inMode (k .limit) D2 .0) b)
+    go HI e = rw (ne-eqb c (inMode (k .limit) D2 .0) b)
 
 -- "else the job is cut; in D2 the job is cut"
-pub cut-in-D1 : (k : Task) (c : ℕ) → k .level ≡ LO → c ≡ inMode (k .limit) D1 → judge 3 k c D1 ≡ record { mode = D1; cut = true }
+pub cut-in-D1 : (k : Task) (c : ℕ) → k .level ≡ LO → c ≡ inMode (k .limit) D1 .0 → judge 3 k c D1 ≡ record { mode = D1; cut = true }
 unfolding judge
-cut-in-D1 k c low d = rw (eq-eqb c (inMode (k .limit) D1) d, low)
+cut-in-D1 k c low d = rw (eq-eqb c (inMode (k .limit) D1 .0) d, low)
 
-pub cut-in-D2 : (k : Task) (c : ℕ) → c ≡ inMode (k .limit) D2 → judge 3 k c D2 ≡ record { mode = D2; cut = true }
+pub cut-in-D2 : (k : Task) (c : ℕ) → c ≡ inMode (k .limit) D2 .0 → judge 3 k c D2 ≡ record { mode = D2; cut = true }
 unfolding judge
-cut-in-D2 k c b = rw (eq-eqb c (inMode (k .limit) D2) b)
+cut-in-D2 k c b = rw (eq-eqb c (inMode (k .limit) D2 .0) b)
 
--- "After a rise, judge again at the new limit": a job at its limit in N that is at its limit in D1 too rises twice,
--- or is cut if it is at its limit in D2 too; a LO job is cut in D1.
-pub judged-again : (k : Task) (c : ℕ) → isLow (k .level) ≡ false → c ≡ inMode (k .limit) N → c ≡ inMode (k .limit) D1 →
-    judge 3 k c N ≡ record { mode = D2; cut = eqb c (inMode (k .limit) D2) }
+-- "After a rise, judge again at the new limit": a job at its limit in N that is at its limit in D1
+-- too rises twice, or is cut if it is at its limit in D2 too; a LO job is cut in D1.
+pub judged-again : (k : Task) (c : ℕ) → isLow (k .level) ≡ false → c ≡ inMode (k .limit) N .0 →
+    c ≡ inMode (k .limit) D1 .0 →
+    judge 3 k c N ≡ record { mode = D2; cut = eqb c (inMode (k .limit) D2 .0) }
 unfolding judge
 judged-again k c low n d =
-    rw (eq-eqb c (inMode (k .limit) N) n, eq-eqb c (inMode (k .limit) D1) d) (go (k .level) low)
+    rw (eq-eqb c (inMode (k .limit) N .0) n, eq-eqb c (inMode (k .limit) D1 .0) d) (go (k .level) low)
   where
     last : (b : Bool) →
         _≡_ {A = Judged}
@@ -173,16 +175,16 @@ judged-again k c low n d =
     last false = refl
 
     go : (l : Level) → isLow l ≡ false →
-        onward (judge 1 k c) D1 (atLimit D1 l) ≡ record { mode = D2; cut = eqb c (inMode (k .limit) D2) }
+        onward (judge 1 k c) D1 (atLimit D1 l) ≡ record { mode = D2; cut = eqb c (inMode (k .limit) D2 .0) }
     go LO e = absurd (clash true refl e)
-    go MI e = last (eqb c (inMode (k .limit) D2))
-    go HI e = last (eqb c (inMode (k .limit) D2))
+    go MI e = last (eqb c (inMode (k .limit) D2 .0))
+    go HI e = last (eqb c (inMode (k .limit) D2 .0))
 
-pub judged-again-low : (k : Task) (c : ℕ) → k .level ≡ LO → c ≡ inMode (k .limit) N → c ≡ inMode (k .limit) D1 →
+pub judged-again-low : (k : Task) (c : ℕ) → k .level ≡ LO → c ≡ inMode (k .limit) N .0 → c ≡ inMode (k .limit) D1 .0 →
     judge 3 k c N ≡ record { mode = D1; cut = true }
 unfolding judge
 judged-again-low k c low n d =
-    rw (eq-eqb c (inMode (k .limit) N) n, eq-eqb c (inMode (k .limit) D1) d)
+    rw (eq-eqb c (inMode (k .limit) N .0) n, eq-eqb c (inMode (k .limit) D1 .0) d)
     (ap (λ (l : Level). onward (judge 1 k c) D1 (atLimit D1 l)) low)
 
 -- a waiting job that is not LO is not discarded, so step 3 leaves the mode
@@ -197,8 +199,10 @@ waits-on t m s k many h l w low =
     (omega (arith, step2-counted t m s many h k l, discards-low t m s k low)))) ∙
     step2-mode t m s
 
--- In a whole tick: the job that is below its limit in D2 stays, and the tick is in D2; the one that is at it is cut.
-again-one : (t : Table) (s : State) (k : ℕ) (b : Bool) → s .last ≡ Job k → s .mode ≡ N → isLow (taskAt t k .level) ≡ false →
+-- In a whole tick: the job that is below its limit in D2 stays, and the tick is in D2; the one that
+-- is at it is cut.
+again-one : (t : Table) (s : State) (k : ℕ) (b : Bool) → s .last ≡ Job k → s .mode ≡ N →
+    isLow (taskAt t k .level) ≡ false →
     runsAt s k ≡ limitAt t N k → runsAt s k ≡ limitAt t D1 k → eqb (runsAt s k) (limitAt t D2 k) ≡ b →
     step1 t s false (s .last) ≡ judged s k (record { mode = D2; cut = b })
 unfolding step1
@@ -268,7 +272,7 @@ waits-as-risen t s mark k l w =
 
 -- From a fresh start of a table that keeps the rules nothing is ever answered 13.
 pub never-13 : (t : Table) (es : List Event) (e : Event) → Sized t → tableKeeps t ≡ true →
-    eventOf (after (freshRun t) es) e .answer ≡ No Unsound → ⊥
+    noOf (eventOf (after (freshRun t) es) e .answer) ≡ 13 → ⊥
 never-13 t es (Release k) z q a =
     clash (sound (after (freshRun t) es)) (reached-sound t es z q) (release-13 (after (freshRun t) es) k .0 a)
 never-13 t es (Tick mark) z q a =

@@ -38,7 +38,7 @@ module _ (t : Table) (s : State) where
   last-absent l k e h = rw (e, le-ltb k (t .ntasks) h)
 
   pub last-there : (l : Last) (k : ℕ) → l ≡ Job k → k < t .ntasks →
-      every (true ∷ taskWaits s k ∷ leb 1 (runsAt s k) ∷ leb 1 (s .ticks) ∷ []) ≡ soundLast t s l
+      every (true ∷ taskWaits s k ∷ leb 1 (runsAt s k) ∷ leb 1 (s .ticks .0) ∷ []) ≡ soundLast t s l
   unfolding soundLast
   last-there l k e h = rw (e, lt-ltb k (t .ntasks) h)
 

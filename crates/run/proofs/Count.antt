@@ -1,6 +1,6 @@
--- Every job that was released was finished, cut or discarded, or waits still: in all, counted from the answers alone,
--- and task by task. Each event keeps the sum, since in a sound state the job that leaves was waiting. Assumes
--- nothing.
+-- Every job that was released was finished, cut or discarded, or waits still: in all, counted from
+-- the answers alone, and task by task. Each event keeps the sum, since in a sound state the job
+-- that leaves was waiting. Assumes nothing.
 use mathlib.Core.Path.{_≡_, refl, ap, sym, subst, _∙_}
 use mathlib.Core.Bool.{Bool, true, false, _&&_}
 use mathlib.Core.List.{List, [], _∷_}
@@ -13,7 +13,7 @@ use Rattle.laws.proofs.Choice.{if-ind}
 use Rattle.laws.proofs.Rows.{sum-cong, sum-add, sum-zero}
 use Rattle.table.specs.declared.Mode.{Mode}
 use Rattle.table.specs.declared.Table.{Table}
-use Rattle.table.specs.Parts.{Sized}
+use Rattle.table.specs.Inner.{Sized}
 use Rattle.table.specs.Rows.{taskAt, isLow}
 use Rattle.table.specs.Rules.{tableKeeps}
 use Rattle.table.proofs.Rules.{TableRules, table-rules}
@@ -32,7 +32,8 @@ use Rattle.run.specs.Answers.{one, finishedBy, cutBy}
 use Rattle.run.specs.Release.{freshRun, withJob}
 use Rattle.run.specs.Tick.{Marked, judge, step1, enters, drops, discards, settle, tickTaken}
 use Rattle.run.specs.Events.{eventOf, after, answers}
-use Rattle.run.specs.Count.{overAll, byLeft, release, releaseBy, releasedIn, releasedOf, anyFinished, finishedIn, finishedOf, anyCut, cutIn, cutOf, discarded, discardedIn, ifTicked, discardedBy, discardedOf}
+use Rattle.run.specs.Count.{overAll, byLeft, release, releaseBy, releasedIn, releasedOf, anyFinished, finishedIn}
+use Rattle.run.specs.Count.{finishedOf, anyCut, cutIn, cutOf, discarded, discardedIn, ifTicked, discardedBy, discardedOf}
 use Rattle.run.proofs.Taken.{release-ind, tick-ind}
 use Rattle.run.proofs.Shape.{Shaped, RunShaped, fresh-run-shaped, event-run-shaped, event-table}
 use Rattle.run.proofs.Sound.{LastSound, StateSound, sound-table, sound-state}
@@ -45,7 +46,8 @@ LeftBelow n Nobody = Unit {0}
 LeftBelow n (Done j) = j < n
 LeftBelow n (Cut j) = j < n
 
-pub left-below : (t : Table) (s : State) (mark : Bool) (l : Last) → LastSound t s l → LeftBelow (t .ntasks) (step1 t s mark l .left)
+pub left-below : (t : Table) (s : State) (mark : Bool) (l : Last) → LastSound t s l →
+    LeftBelow (t .ntasks) (step1 t s mark l .left)
 unfolding step1
 left-below t s mark NoJob q = tt
 left-below t s true (Job j) q = q .below
@@ -179,7 +181,8 @@ event-jobs-of r (Tick mark) h q k l =
     (λ why. omega arith)
     (λ y. omega (arith, tick-jobs-of (r .table) (r .state) mark rules (h .state) (sound-state r q) k l))
 
--- Any events, from a sound run: what waited and what was released is finished, cut, discarded, or waits.
+-- Any events, from a sound run: what waited and what was released is finished, cut, discarded, or
+-- waits.
 pub jobs-from : (r : Run) (es : List Event) (n : ℕ) → r .table .ntasks ≡ n → RunShaped r → sound r ≡ true →
     sumBelow n (waitingAt (after r es .state)) +
     (finishedIn (answers r es) + cutIn (answers r es)) +
@@ -240,8 +243,10 @@ jobs-balance-of t es z e k l =
       getD-replicate {A = ℕ} 64 k 0 0 (omega arith),
     )
 
--- What was discarded task by task is what the answers tell in all, and of a MI or HI task nothing is.
-discarded-event : (r : Run) (e : Event) → discarded (eventOf r e .answer) ≡ sumBelow (r .table .ntasks) (discardedBy r e)
+-- What was discarded task by task is what the answers tell in all, and of a MI or HI task nothing
+-- is.
+discarded-event : (r : Run) (e : Event) →
+    discarded (eventOf r e .answer) ≡ sumBelow (r .table .ntasks) (discardedBy r e)
 unfolding tickTaken
 discarded-event r (Release k) =
     release-ind (λ (a : Answered). discarded (a .answer) ≡ 0) r k (λ why. refl) (λ y. refl) ∙
