@@ -1,10 +1,1 @@
-pub mod Rows
-pub mod Sheets
-pub mod Judging
-pub mod Marking
-pub mod Settling
-pub mod Tops
-pub mod Ticking
-pub mod Releasing
-pub mod Keeping
-pub mod Serving
+pub mod Inner

@@ -1,15 +1,18 @@
 // What steps 5 to 7 of a tick change. (01, What one tick does.)
 
+use crate::parts::Head;
 use run::Last;
 use run::Turn;
+use table::SERVERS;
+use table::TASKS;
+use units::Ticks;
 ghost use mathlib.Core.Path.{_≡_};
 ghost use Prim.Native.Nat.{_+_, _≤_, _<_};
 ghost use lib.ListN.{getD, set};
-ghost use Rattle.laws.specs.Rows.{anew};
 ghost use Rattle.run.specs.Tick.{lastOf};
-ghost use Rattle.scheduler.specs.Advance.{Low, Room, usedBy, runsBy};
+ghost use Rattle.scheduler.specs.Inner.Steps.{ChargeFits, Charges, RunFits, RunsFront, Low, Ages, CountsFit, Advances};
 
-pub(crate) fn last_of(turn: Turn) -> Last
+fn last_of(turn: Turn) -> Last
     ensures { λ r. ⌜ r ≡ lastOf turn ⌝ }
 {
     match turn {
@@ -20,7 +23,7 @@ pub(crate) fn last_of(turn: Turn) -> Last
 }
 
 // "used plus 1"
-fn add_used(used: &mut [u32; 32], i: usize)
+fn add_used(used: &mut [u32; SERVERS], i: usize)
     requires { ⌜ (i < 32) × (getD (now used) i 0 ≤ 1000000) ⌝ }
     ensures { λ r. ⌜ now (used .exit) ≡ set (now (used .entry)) i (getD (now (used .entry)) i 0 + 1) ⌝ }
 {
@@ -28,23 +31,21 @@ fn add_used(used: &mut [u32; 32], i: usize)
 }
 
 // "run count plus 1"
-fn add_run(runs: &mut [u32; 64], k: usize)
+fn add_run(runs: &mut [u32; TASKS], k: usize)
     requires { ⌜ (k < 64) × (getD (now runs) k 0 ≤ 1000000) ⌝ }
     ensures { λ r. ⌜ now (runs .exit) ≡ set (now (runs .entry)) k (getD (now (runs .entry)) k 0 + 1) ⌝ }
 {
     runs[k] = runs[k] + 1;
 }
 
-// Steps 5 and 6: the server is charged, the job runs.
-pub(crate) fn charge(turn: Turn, used: &mut [u32; 32], runs: &mut [u32; 64])
-    requires { ⌜ Room turn (now used) (now runs) ⌝ }
-    ensures { λ r.
-        ⌜ (now (used .exit) ≡ usedBy turn (now (used .entry))) × (now (runs .exit) ≡ runsBy turn (now (runs .entry))) ⌝ }
+// Step 5: "The highest is charged: used plus 1."
+fn charge(turn: Turn, used: &mut [u32; SERVERS])
+    requires { ⌜ ChargeFits turn (now used) ⌝ }
+    ensures { λ r. ⌜ Charges turn (now (used .entry)) (now (used .exit)) ⌝ }
 {
     match turn {
-        Turn::Run { server, task } => {
+        Turn::Run { server, task: _ } => {
             add_used(used, server);
-            add_run(runs, task);
         }
         Turn::Empty { server } => {
             add_used(used, server);
@@ -53,12 +54,48 @@ pub(crate) fn charge(turn: Turn, used: &mut [u32; 32], runs: &mut [u32; 64])
     }
 }
 
-// Step 7: "All elapsed counts .. rise by 1."
-pub(crate) fn age(n: usize, elapsed: &mut [u32; 32])
+// Step 6: "runs the front job: run count plus 1"
+fn run_front(turn: Turn, runs: &mut [u32; TASKS])
+    requires { ⌜ RunFits turn (now runs) ⌝ }
+    ensures { λ r. ⌜ RunsFront turn (now (runs .entry)) (now (runs .exit)) ⌝ }
+{
+    match turn {
+        Turn::Run { server: _, task } => {
+            add_run(runs, task);
+        }
+        Turn::Empty { server: _ } => {}
+        Turn::Idle => {}
+    }
+}
+
+// Step 7: "All elapsed counts .. rise by 1." n servers are in use.
+fn age(n: usize, elapsed: &mut [u32; SERVERS])
     requires { ⌜ (n ≤ 32) × Low n (now elapsed) ⌝ }
-    ensures { λ r. ⌜ now (elapsed .exit) ≡ anew n (λ i e. e + 1) (now (elapsed .entry)) ⌝ }
+    ensures { λ r. ⌜ Ages n (now (elapsed .entry)) (now (elapsed .exit)) ⌝ }
 {
     for i in 0..n {
         elapsed[i] = elapsed[i] + 1;
     }
+}
+
+// Steps 5 to 7, the tick saying `turn`: the head after them.
+pub(crate) fn advance(
+    h: Head,
+    turn: Turn,
+    used: &mut [u32; SERVERS],
+    elapsed: &mut [u32; SERVERS],
+    runs: &mut [u32; TASKS],
+) -> Head
+    requires { ⌜ CountsFit h turn (now used) (now elapsed) (now runs) ⌝ }
+    ensures { λ r.
+        ⌜ Advances h turn (now (used .entry)) (now (elapsed .entry)) (now (runs .entry))
+        (now (used .exit)) (now (elapsed .exit)) (now (runs .exit)) r ⌝ }
+{
+    charge(turn, used);
+    run_front(turn, runs);
+    age(h.nservers, elapsed);
+    let last = last_of(turn);
+    let t = h.ticks;
+    let ticks = Ticks(t.0 + 1);
+    Head { last, ticks, ..h }
 }

@@ -1,37 +1,62 @@
-// Steps 5 and 6 of a tick. (01, What one tick does.) One walk over the tasks finds each server's highest task with a
-// waiting job, so that the walk over the servers need not look for one.
+// Steps 5 and 6 of a tick. (01, What one tick does.) One walk over the tasks finds each server's
+// highest task with a waiting job, so that the walk over the servers need not look for one.
 
-use crate::parts;
-use crate::parts::Front;
+use crate::parts::Head;
+use crate::sheets;
+use crate::sheets::CAPACITY_D1;
+use crate::sheets::CAPACITY_D2;
+use crate::sheets::CAPACITY_N;
+use crate::sheets::DEGRADED;
+use crate::sheets::HOME;
+use crate::sheets::KIND;
+use crate::sheets::SERVER_CELLS;
+use crate::sheets::SERVER_PRIORITY;
+use crate::sheets::TASK_CELLS;
+use crate::sheets::TASK_PRIORITY;
 use run::Turn;
-use table::Kind;
 use table::Mode;
-use table::Server;
-use table::Task;
+use table::SERVERS;
+use table::TASKS;
 ghost use mathlib.Core.Path.{_≡_};
-ghost use mathlib.Core.Bool.{true, _&&_, _||_};
-ghost use Prim.Native.Nat.{_<_};
-ghost use lib.Dec.{ltb};
-ghost use Rattle.table.specs.Rows.{inMode, isTimed};
-ghost use Rattle.table.specs.Rules.{tableKeeps};
-ghost use Rattle.run.specs.State.{owner};
-ghost use Rattle.run.specs.Tick.{choose, turnOf};
-ghost use Rattle.scheduler.specs.Sheets.{tableOf};
-ghost use Rattle.scheduler.specs.Choose.{foundAt, facing};
+ghost use mathlib.Core.Bool.{not, _&&_, _||_};
+ghost use Prim.Native.Nat.{_≤_};
+ghost use lib.Dec.{ltb, eqb};
+ghost use lib.ListN.{replicate};
+ghost use Rattle.run.specs.Tick.{turnOf};
+ghost use Rattle.scheduler.specs.Inner.Choose.{ownerColumn, capacityColumn, foundAt, Owned, TopsFound, AbleFound, Chooses};
+ghost use Rattle.scheduler.specs.Inner.Steps.{SomeTable};
 
-// "In N a task belongs to its home, else to its degraded server."
-fn owner_of(m: Mode, k: Task) -> usize
-    ensures { λ r. ⌜ r ≡ owner m k ⌝ }
+// The highest row found so far, by its priority; 0 is nothing found.
+pub struct Highest {
+    pub height: u32,
+    pub row: usize,
+}
+
+// "In N a task belongs to its home, else to its degraded server.": where the column of the owners
+// begins.
+fn owner_column(m: Mode) -> usize
+    ensures { λ r. ⌜ (r ≡ ownerColumn m) × (r ≤ 64) ⌝ }
 {
     match m {
-        Mode::N => k.home as usize,
-        Mode::D1 => k.degraded as usize,
-        Mode::D2 => k.degraded as usize,
+        Mode::N => HOME,
+        Mode::D1 => DEGRADED,
+        Mode::D2 => DEGRADED,
     }
 }
 
-// Whether a task has a waiting job and is above what was found so far; 0 is nothing found.
-fn is_higher(waiting: u8, priority: u8, height: u8) -> bool
+// Where the column of the capacities in force begins.
+fn capacity_column(m: Mode) -> usize
+    ensures { λ r. ⌜ (r ≡ capacityColumn m) × (r ≤ 160) ⌝ }
+{
+    match m {
+        Mode::N => CAPACITY_N,
+        Mode::D1 => CAPACITY_D1,
+        Mode::D2 => CAPACITY_D2,
+    }
+}
+
+// Whether a task has a waiting job and is above what was found so far.
+fn is_higher(waiting: u8, priority: u32, height: u32) -> bool
     ensures { λ r. ⌜ r ≡ (ltb 0 waiting && ltb height priority) ⌝ }
 {
     if waiting == 0 {
@@ -40,23 +65,76 @@ fn is_higher(waiting: u8, priority: u8, height: u8) -> bool
     height < priority
 }
 
-// Whether a server is able; `waits` is 0 if no job of it waits.
-fn is_able(s: Server, m: Mode, used: u32, waits: u8) -> bool
-    ensures { λ r. ⌜ r ≡ (ltb used (inMode (s .capacity) m) && (isTimed (s .kind) || ltb 0 waits)) ⌝ }
+// Of each server, the highest task with a waiting job, and its priority.
+fn find_tops(
+    h: Head,
+    tasks: &[u32; TASK_CELLS],
+    waiting: &[u8; TASKS],
+    height: &mut [u32; SERVERS],
+    top: &mut [u8; SERVERS],
+)
+    requires { ⌜ Owned h (now tasks) × (now height ≡ replicate 32 0) × (now top ≡ replicate 32 0) ⌝ }
+    ensures { λ r.
+        ⌜ TopsFound h (now (tasks .entry)) (now (waiting .entry)) (now (height .exit)) (now (top .exit)) ⌝ }
 {
-    let kind = s.kind;
-    let c = s.capacity;
-    if table::in_mode(c, m) <= used {
+    let m = h.mode;
+    let column = owner_column(m);
+    for k in 0..h.ntasks {
+        let o = sheets::task_cell(tasks, column, k) as usize;
+        let priority = sheets::task_cell(tasks, TASK_PRIORITY, k);
+        if is_higher(waiting[k], priority, height[o]) {
+            height[o] = priority;
+            top[o] = k as u8;
+        }
+    }
+}
+
+// Whether a server is able; `waits` is 0 if no job of it waits.
+fn is_able(capacity: u32, used: u32, kind: u32, waits: u32) -> bool
+    ensures { λ r. ⌜ r ≡ (ltb used capacity && (not (eqb kind 0) || ltb 0 waits)) ⌝ }
+{
+    if capacity <= used {
         return false;
     }
-    match kind {
-        Kind::Event => 0 < waits,
-        Kind::Timed => true,
+    if kind != 0 {
+        return true;
+    }
+    0 < waits
+}
+
+// The highest able server. A job of server i waits if `height[i]` is not 0.
+fn find_able(
+    h: Head,
+    servers: &[u32; SERVER_CELLS],
+    used: &[u32; SERVERS],
+    height: &[u32; SERVERS],
+) -> Highest
+    requires { ⌜ h .nservers ≤ 32 ⌝ }
+    ensures { λ r. ⌜ AbleFound h (now (servers .entry)) (now (used .entry)) (now (height .entry)) r ⌝ }
+{
+    let m = h.mode;
+    let column = capacity_column(m);
+    let mut best: usize = 0;
+    let mut high: u32 = 0;
+    for i in 0..h.nservers {
+        let priority = sheets::server_cell(servers, SERVER_PRIORITY, i);
+        if high < priority {
+            let capacity = sheets::server_cell(servers, column, i);
+            let kind = sheets::server_cell(servers, KIND, i);
+            if is_able(capacity, used[i], kind, height[i]) {
+                high = priority;
+                best = i;
+            }
+        }
+    }
+    Highest {
+        height: high,
+        row: best,
     }
 }
 
 // What is said of the server that is charged, its highest task with a waiting job being as found.
-fn turn_of(server: usize, height: u8, task: u8) -> Turn
+fn turn_of(server: usize, height: u32, task: u8) -> Turn
     ensures { λ r. ⌜ r ≡ turnOf server (foundAt height task) ⌝ }
 {
     if height == 0 {
@@ -68,45 +146,24 @@ fn turn_of(server: usize, height: u8, task: u8) -> Turn
     }
 }
 
-pub(crate) fn choose_turn<'a>(
-    f: Front,
-    ranks: &'a [u8; 96],
-    times: &'a [u32; 128],
-    tags: &'a [u8; 256],
-    limits: &'a [u32; 192],
-    m: Mode,
-    used: &[u32; 32],
-    waiting: &[u8; 64],
+pub(crate) fn choose_turn(
+    h: Head,
+    servers: &[u32; SERVER_CELLS],
+    tasks: &[u32; TASK_CELLS],
+    used: &[u32; SERVERS],
+    waiting: &[u8; TASKS],
 ) -> Turn
-    requires { ⌜ tableKeeps (tableOf f (now ranks) (now times) (now tags) (now limits)) ≡ true ⌝ }
+    requires { ⌜ SomeTable h (now servers) (now tasks) ⌝ }
     ensures { λ r.
-        ⌜ r ≡ choose
-        (tableOf f (now (ranks .entry)) (now (times .entry)) (now (tags .entry)) (now (limits .entry)))
-        (facing m (now (used .entry)) (now (waiting .entry))) ⌝ }
+        ⌜ Chooses h (now (servers .entry)) (now (tasks .entry)) (now (used .entry)) (now (waiting .entry)) r ⌝ }
 {
-    let mut top = [0u8; 32];
-    let mut height = [0u8; 32];
-    for k in 0..f.ntasks {
-        let row = parts::task_at(tags, limits, k);
-        let o = owner_of(m, row);
-        if is_higher(waiting[k], row.priority, height[o]) {
-            height[o] = row.priority;
-            top[o] = k as u8;
-        }
-    }
-    let mut best: usize = 0;
-    let mut high: u8 = 0;
-    for i in 0..f.nservers {
-        let s = parts::server_at(ranks, times, i);
-        if high < s.priority {
-            if is_able(s, m, used[i], height[i]) {
-                high = s.priority;
-                best = i;
-            }
-        }
-    }
-    if high == 0 {
+    let mut height = [0u32; SERVERS];
+    let mut top = [0u8; SERVERS];
+    find_tops(h, tasks, waiting, &mut height, &mut top);
+    let best = find_able(h, servers, used, &height);
+    if best.height == 0 {
         return Turn::Idle;
     }
-    turn_of(best, height[best], top[best])
+    let row = best.row;
+    turn_of(row, height[row], top[row])
 }

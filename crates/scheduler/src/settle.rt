@@ -1,38 +1,49 @@
 // Steps 1 to 4 of a tick. (01, What one tick does.)
 
-use crate::parts;
 use crate::parts::Head;
+use crate::sheets;
+use crate::sheets::LEVEL;
+use crate::sheets::LIMIT_D1;
+use crate::sheets::LIMIT_D2;
+use crate::sheets::LIMIT_N;
+use crate::sheets::PERIOD;
+use crate::sheets::SERVER_CELLS;
+use crate::sheets::TASK_CELLS;
+use run::Judged;
 use run::Last;
 use run::Left;
+use table::ByMode;
+use table::Level;
 use table::Mode;
-use table::Task;
+use table::SERVERS;
+use table::TASKS;
+use units::Ticks;
 ghost use mathlib.Core.Path.{_≡_};
-ghost use Prim.Native.Nat.{_-_, _≤_, _<_};
+ghost use Prim.Native.Nat.{_+_, _-_, _≤_, _<_};
 ghost use lib.ListN.{getD, set};
 ghost use Rattle.laws.specs.Choice.{if_then_else_};
 ghost use Rattle.laws.specs.Rows.{anew, anyBelow, sumBelow};
-ghost use Rattle.run.specs.Tick.{judge, enters};
-ghost use Rattle.scheduler.specs.Settle.{judgedOf, lastRow, RanJob, Marks};
-ghost use Rattle.scheduler.specs.Sheets.{serversIn, tasksIn};
-ghost use Rattle.scheduler.specs.Settle.{refilled, keptOf, goneOf, waitsAt, modeOn};
-
-// The mode after a job was judged, and whether it was cut.
-pub struct Judged {
-    pub mode: Mode,
-    pub cut: bool,
-}
+ghost use Rattle.run.specs.Tick.{enters};
+ghost use Rattle.scheduler.specs.Inner.Steps.{Judges, JudgesInD2, RanJob, Marks, keptOf, goneOf, Discards, waitsAt, SettlesMode, Refills, Few, Settles};
 
 // The mode after step 1, and the job that left.
-pub struct Marked {
+pub struct Risen {
     pub mode: Mode,
     pub left: Left,
 }
 
+// What steps 1 to 4 tell: the mode that step 5 finds, the job that left, and how many were
+// discarded.
+pub struct Settling {
+    pub mode: Mode,
+    pub left: Left,
+    pub discarded: u32,
+}
+
 // "in D2 the job is cut"
-fn judge_in_d2(k: Task, c: u32) -> Judged
-    ensures { λ r. ⌜ judgedOf r ≡ judge 1 k c Mode.D2 ⌝ }
+fn judge_in_d2(x: ByMode, c: u32) -> Judged
+    ensures { λ r. ⌜ JudgesInD2 x c r ⌝ }
 {
-    let x = k.limit;
     Judged {
         mode: Mode::D2,
         cut: c == x.d2.0,
@@ -40,11 +51,9 @@ fn judge_in_d2(k: Task, c: u32) -> Judged
 }
 
 // "in D1 it rises to D2 for a MI or HI task, else the job is cut"
-fn judge_in_d1(k: Task, c: u32) -> Judged
-    ensures { λ r. ⌜ judgedOf r ≡ judge 2 k c Mode.D1 ⌝ }
+fn judge_in_d1(x: ByMode, l: Level, c: u32) -> Judged
+    ensures { λ r. ⌜ Judges 2 x l c Mode.D1 r ⌝ }
 {
-    let x = k.limit;
-    let l = k.level;
     if c != x.d1.0 {
         return Judged {
             mode: Mode::D1,
@@ -57,36 +66,52 @@ fn judge_in_d1(k: Task, c: u32) -> Judged
             cut: true,
         };
     }
-    judge_in_d2(k, c)
+    judge_in_d2(x, c)
 }
 
 // "in N the mode rises to D1"
-fn judge_in_n(k: Task, c: u32) -> Judged
-    ensures { λ r. ⌜ judgedOf r ≡ judge 3 k c Mode.N ⌝ }
+fn judge_in_n(x: ByMode, l: Level, c: u32) -> Judged
+    ensures { λ r. ⌜ Judges 3 x l c Mode.N r ⌝ }
 {
-    let x = k.limit;
     if c != x.n.0 {
         return Judged {
             mode: Mode::N,
             cut: false,
         };
     }
-    judge_in_d1(k, c)
+    judge_in_d1(x, l, c)
 }
 
-// "After a rise, judge again at the new limit." The job is of the task's row and has run so many ticks.
-fn judge_job(row: Task, count: u32, m: Mode) -> Judged
-    ensures { λ r. ⌜ judgedOf r ≡ judge 3 row count m ⌝ }
+// "After a rise, judge again at the new limit." The job is of a task with these limits and this
+// level, and has run so many ticks.
+fn judge_job(x: ByMode, l: Level, c: u32, m: Mode) -> Judged
+    ensures { λ r. ⌜ Judges 3 x l c m r ⌝ }
 {
     match m {
-        Mode::N => judge_in_n(row, count),
-        Mode::D1 => judge_in_d1(row, count),
-        Mode::D2 => judge_in_d2(row, count),
+        Mode::N => judge_in_n(x, l, c),
+        Mode::D1 => judge_in_d1(x, l, c),
+        Mode::D2 => judge_in_d2(x, c),
+    }
+}
+
+fn limits_of(tasks: &[u32; TASK_CELLS], k: usize) -> ByMode
+    requires { ⌜ k < 64 ⌝ }
+    ensures { λ r.
+        ⌜ r ≡ record {
+          n = record { 0 = getD (now (tasks .entry)) (256 + k) 0 };
+          d1 = record { 0 = getD (now (tasks .entry)) (320 + k) 0 };
+          d2 = record { 0 = getD (now (tasks .entry)) (384 + k) 0 };
+        } ⌝ }
+{
+    ByMode {
+        n: Ticks(tasks[LIMIT_N + k]),
+        d1: Ticks(tasks[LIMIT_D1 + k]),
+        d2: Ticks(tasks[LIMIT_D2 + k]),
     }
 }
 
 // The front job of task k leaves, and the next one's count starts at 0.
-fn leave(k: usize, waiting: &mut [u8; 64], runs: &mut [u32; 64])
+fn leave(k: usize, waiting: &mut [u8; TASKS], runs: &mut [u32; TASKS])
     requires { ⌜ (k < 64) × (0 < getD (now waiting) k 0) ⌝ }
     ensures { λ r.
         ⌜ (now (waiting .exit) ≡ set (now (waiting .entry)) k (getD (now (waiting .entry)) k 0 - 1))
@@ -96,53 +121,46 @@ fn leave(k: usize, waiting: &mut [u8; 64], runs: &mut [u32; 64])
     runs[k] = 0;
 }
 
-// The row of the last-run task; any row where there is none.
-pub(crate) fn last_row(l: Last) -> usize
-    ensures { λ r. ⌜ r ≡ lastRow l ⌝ }
-{
-    match l {
-        Last::NoJob => 0,
-        Last::Job(k) => k,
-    }
-}
-
-// Step 1. The row is that of the last-run task.
-pub(crate) fn mark_job(
-    row: Task,
+// Step 1.
+fn mark_job(
     h: Head,
-    waiting: &mut [u8; 64],
-    runs: &mut [u32; 64],
+    tasks: &[u32; TASK_CELLS],
+    waiting: &mut [u8; TASKS],
+    runs: &mut [u32; TASKS],
     mark: bool,
-) -> Marked
-    requires { ⌜ RanJob (h .last) (now waiting) ⌝ }
+) -> Risen
+    requires { ⌜ RanJob h (h .last) (now waiting) ⌝ }
     ensures { λ r.
-        ⌜ Marks row h mark (now (waiting .entry)) (now (runs .entry)) (now (waiting .exit)) (now (runs .exit)) r ⌝ }
+        ⌜ Marks h (now (tasks .entry)) mark (now (waiting .entry)) (now (runs .entry))
+        (now (waiting .exit)) (now (runs .exit)) r ⌝ }
 {
     let m = h.mode;
     let last = h.last;
     match last {
-        Last::NoJob => Marked {
+        Last::NoJob => Risen {
             mode: m,
             left: Left::Nobody,
         },
         Last::Job(k) => {
             if mark {
                 leave(k, waiting, runs);
-                return Marked {
+                return Risen {
                     mode: m,
                     left: Left::Done(k),
                 };
             }
-            let j = judge_job(row, runs[k], m);
+            let x = limits_of(tasks, k);
+            let l = sheets::level_in(sheets::task_cell(tasks, LEVEL, k));
+            let j = judge_job(x, l, runs[k], m);
             let after = j.mode;
             if j.cut {
                 leave(k, waiting, runs);
-                return Marked {
+                return Risen {
                     mode: after,
                     left: Left::Cut(k),
                 };
             }
-            Marked {
+            Risen {
                 mode: after,
                 left: Left::Nobody,
             }
@@ -151,36 +169,32 @@ pub(crate) fn mark_job(
 }
 
 // Whether step 2 has anything to do: the mode was not D2 and is.
-pub(crate) fn enters_d2(before: Mode, after: Mode) -> bool
+fn enters_d2(before: Mode, after: Mode) -> bool
     ensures { λ r. ⌜ r ≡ enters before after ⌝ }
 {
-    if soundness::is_d2(before) {
+    if table::is_d2(before) {
         return false;
     }
-    soundness::is_d2(after)
+    table::is_d2(after)
 }
 
-// Step 2, once D2 is entered: how many were discarded. n tasks are in use.
-pub(crate) fn discard<'a>(
+// The jobs of every LO task are discarded, and counted. n tasks are in use.
+fn drop_low(
     n: usize,
-    tags: &'a [u8; 256],
-    limits: &'a [u32; 192],
-    waiting: &mut [u8; 64],
-    runs: &mut [u32; 64],
+    tasks: &[u32; TASK_CELLS],
+    waiting: &mut [u8; TASKS],
+    runs: &mut [u32; TASKS],
 ) -> u32
     requires { ⌜ n ≤ 64 ⌝ }
     ensures { λ r.
-        ⌜ (now (waiting .exit) ≡ anew n (keptOf (tasksIn (now (tags .entry)) (now (limits .entry)))) (now (waiting .entry)))
-        × (now (runs .exit) ≡ anew n (keptOf (tasksIn (now (tags .entry)) (now (limits .entry)))) (now (runs .entry)))
-        × (r ≡ sumBelow n
-        (λ k. goneOf (tasksIn (now (tags .entry)) (now (limits .entry))) k (getD (now (waiting .entry)) k 0))) ⌝ }
+        ⌜ (now (waiting .exit) ≡ anew n (keptOf (now (tasks .entry))) (now (waiting .entry)))
+        × (now (runs .exit) ≡ anew n (keptOf (now (tasks .entry))) (now (runs .entry)))
+        × (r ≡ sumBelow n (λ k. goneOf (now (tasks .entry)) k (getD (now (waiting .entry)) k 0))) ⌝ }
 {
     let mut count: u32 = 0;
     for k in 0..n {
-        let row = parts::task_at(tags, limits, k);
-        let l = row.level;
-        if table::is_low(l) {
-            count += soundness::jobs(waiting[k]);
+        if sheets::task_cell(tasks, LEVEL, k) == 0 {
+            count += run::job_count(waiting[k]);
             waiting[k] = 0;
             runs[k] = 0;
         }
@@ -188,8 +202,28 @@ pub(crate) fn discard<'a>(
     count
 }
 
+// Step 2: how many were discarded. The head is that after step 1, and the mode was `before`.
+fn discard(
+    h: Head,
+    before: Mode,
+    tasks: &[u32; TASK_CELLS],
+    waiting: &mut [u8; TASKS],
+    runs: &mut [u32; TASKS],
+) -> u32
+    requires { ⌜ h .ntasks ≤ 64 ⌝ }
+    ensures { λ r.
+        ⌜ Discards h before (now (tasks .entry)) (now (waiting .entry)) (now (runs .entry))
+        (now (waiting .exit)) (now (runs .exit)) r ⌝ }
+{
+    let after = h.mode;
+    if !enters_d2(before, after) {
+        return 0;
+    }
+    drop_low(h.ntasks, tasks, waiting, runs)
+}
+
 // Whether some job waits.
-fn some_waits(n: usize, waiting: &[u8; 64]) -> bool
+fn some_waits(n: usize, waiting: &[u8; TASKS]) -> bool
     requires { ⌜ n ≤ 64 ⌝ }
     ensures { λ r. ⌜ r ≡ anyBelow n (waitsAt (now (waiting .entry))) ⌝ }
 {
@@ -201,21 +235,22 @@ fn some_waits(n: usize, waiting: &[u8; 64]) -> bool
     false
 }
 
-// Step 3.
-pub(crate) fn settled_mode(n: usize, waiting: &[u8; 64], m: Mode) -> Mode
-    requires { ⌜ n ≤ 64 ⌝ }
-    ensures { λ r. ⌜ r ≡ modeOn n (now (waiting .entry)) m ⌝ }
+// Step 3: the mode after it.
+fn settled_mode(h: Head, waiting: &[u8; TASKS]) -> Mode
+    requires { ⌜ h .ntasks ≤ 64 ⌝ }
+    ensures { λ r. ⌜ SettlesMode h (now (waiting .entry)) r ⌝ }
 {
+    let m = h.mode;
     match m {
         Mode::N => Mode::N,
         Mode::D1 => {
-            if some_waits(n, waiting) {
+            if some_waits(h.ntasks, waiting) {
                 return Mode::D1;
             }
             Mode::N
         }
         Mode::D2 => {
-            if some_waits(n, waiting) {
+            if some_waits(h.ntasks, waiting) {
                 return Mode::D2;
             }
             Mode::N
@@ -234,24 +269,52 @@ fn left_of(over: bool, x: u32) -> u32
 }
 
 // Step 4. n servers are in use.
-pub(crate) fn refill<'a>(
+fn refill(
     n: usize,
-    ranks: &'a [u8; 96],
-    times: &'a [u32; 128],
-    used: &mut [u32; 32],
-    elapsed: &mut [u32; 32],
+    servers: &[u32; SERVER_CELLS],
+    used: &mut [u32; SERVERS],
+    elapsed: &mut [u32; SERVERS],
 )
     requires { ⌜ n ≤ 32 ⌝ }
     ensures { λ r.
-        ⌜ (now (used .exit) ≡ anew n
-        (refilled (serversIn (now (ranks .entry)) (now (times .entry))) (now (elapsed .entry))) (now (used .entry)))
-        × (now (elapsed .exit) ≡ anew n
-        (refilled (serversIn (now (ranks .entry)) (now (times .entry))) (now (elapsed .entry))) (now (elapsed .entry))) ⌝ }
+        ⌜ Refills n (now (servers .entry)) (now (used .entry)) (now (elapsed .entry))
+        (now (used .exit)) (now (elapsed .exit)) ⌝ }
 {
     for i in 0..n {
-        let s = parts::server_at(ranks, times, i);
-        let over = elapsed[i] == s.period.0;
+        let over = elapsed[i] == sheets::server_cell(servers, PERIOD, i);
         used[i] = left_of(over, used[i]);
         elapsed[i] = left_of(over, elapsed[i]);
+    }
+}
+
+// Steps 1 to 4.
+pub(crate) fn settle(
+    h: Head,
+    servers: &[u32; SERVER_CELLS],
+    tasks: &[u32; TASK_CELLS],
+    used: &mut [u32; SERVERS],
+    elapsed: &mut [u32; SERVERS],
+    waiting: &mut [u8; TASKS],
+    runs: &mut [u32; TASKS],
+    mark: bool,
+) -> Settling
+    requires { ⌜ Few h × RanJob h (h .last) (now waiting) ⌝ }
+    ensures { λ r.
+        ⌜ Settles h (now (servers .entry)) (now (tasks .entry)) mark
+        (now (used .entry)) (now (elapsed .entry)) (now (waiting .entry)) (now (runs .entry))
+        (now (used .exit)) (now (elapsed .exit)) (now (waiting .exit)) (now (runs .exit)) r ⌝ }
+{
+    let before = h.mode;
+    let m = mark_job(h, tasks, waiting, runs, mark);
+    let risen = m.mode;
+    let left = m.left;
+    let after = Head { mode: risen, ..h };
+    let discarded = discard(after, before, tasks, waiting, runs);
+    let mode = settled_mode(after, waiting);
+    refill(h.nservers, servers, used, elapsed);
+    Settling {
+        mode,
+        left,
+        discarded,
     }
 }

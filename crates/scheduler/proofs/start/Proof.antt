@@ -1,7 +1,7 @@
 -- `scheduler::start` meets its contract. Assumes nothing.
 use mathlib.Core.Path.{sym, _∙_}
-use Rattle.scheduler.proofs.Releasing.{start-taken, start-unsound}
 use borrow.Author.Needs.{needs}
+use Rattle.scheduler.proofs.Inner.Events.{start-taken, start-unsound}
 use Rattle.scheduler.proofs.start.Statement.{statement}
 use Rattle.scheduler.proofs.start.Tie as tie
 

@@ -1,9 +1,11 @@
--- `scheduler::advance::age` meets its contract: the elapsed counts passed are one more. Assumes nothing.
+-- `scheduler::advance::age` meets its contract: the elapsed counts passed are one more. Assumes
+-- nothing.
 use mathlib.Core.Path.{_≡_, refl}
 use Prim.Native.Nat.{_+_, _≤_, _-_}
 use native.Mathlib.Omega.{arith}
 use Rattle.laws.specs.Rows.{anew}
 use Rattle.laws.proofs.Anew.{anew-none, anew-row, anew-put}
+use Rattle.scheduler.proofs.Inner.Steps.{ages-is}
 use Rattle.scheduler.proofs.advance.age.Statement.{statement}
 use Rattle.scheduler.proofs.advance.age.Tie as tie
 
@@ -54,21 +56,10 @@ loop-again c =
 returns : tie.Need-returns Inv-loop μ-loop
 returns c =
     let e : c .before .loop .i ≡ c .before .before .args .n = omega arith in
-    rw (← e) (c .before .loop .inv .1)
+    ages-is _ _ _ (rw (← e) (c .before .loop .inv .1))
 
 pub age-spec : {M : Type 1} → statement M
 age-spec =
     tie.close
-    (tie.spec
-    Inv-loop
-    μ-loop
-    loop-holds
-    mul-elapsed
-    element-copy-out-elapsed
-    add-elapsed
-    mul-elapsed-2
-    element-write-elapsed
-    add-i
-    loop-less
-    loop-again
-    returns)
+    (tie.spec Inv-loop μ-loop loop-holds mul-elapsed element-copy-out-elapsed add-elapsed
+    mul-elapsed-2 element-write-elapsed add-i loop-less loop-again returns)

@@ -1,46 +1,63 @@
--- `scheduler::events::admit` meets its contract: each way through the code is a case of a release of a task that is
--- there. Assumes nothing.
-use mathlib.Core.Path.{sym, _∙_}
+-- `scheduler::events::admit` meets its contract: each way through the code is a case of a release
+-- of a task that is there. Assumes nothing.
 use mathlib.Core.List.{List}
+use mathlib.Core.Path.{_≡_, sym, _∙_}
+use mathlib.Core.Bool.{false, _&&_}
 use Prim.Native.Nat.{ℕ}
 use borrow.Author.Needs.{needs}
+use Rattle.table.specs.Rows.{taskAt, isLow, isD2}
 use Rattle.table.specs.declared.Table.{Table}
 use Rattle.run.specs.declared.Run.{Run}
-use Rattle.scheduler.specs.Parts.{runOf}
-use Rattle.scheduler.proofs.Releasing.{release-low, release-full, release-spent, release-taken}
+use Rattle.scheduler.specs.Inner.Parts.{runOf}
+use Rattle.scheduler.proofs.Inner.Events.{release-low, release-full, release-spent, release-taken}
 use Rattle.scheduler.proofs.events.admit.Statement.{statement}
 use Rattle.scheduler.proofs.events.admit.Tie as tie
 
 abbrev whole : (c : tie.Start) → Table → List ℕ → List ℕ → List ℕ → Run
-whole c t used elapsed runs = runOf t (c .args .h) used elapsed (c .args .waiting .now) runs
+whole c t u e x = runOf t (c .args .h) u e (c .args .waiting .now) x
+
+-- 7 is not given
+level-taken : (c : tie.Else1) (t : Table) → taskAt t (c .before .before .args .task) .level ≡ c .before .before .args .l →
+    (isD2 (c .before .before .args .h .mode) && isLow (taskAt t (c .before .before .args .task) .level)) ≡ false
+level-taken c t q = rw q (sym (c .before .low-in-d2 .ensures) ∙ c .if1 .left)
 
 low-in-d2-requires : tie.Need-low-in-d2-requires
 low-in-d2-requires c κs = search needs
 
 returns : tie.Need-returns
 returns c =
-    λ t u e r s there q.
-    release-low (whole (c .before .before) t u e r) (c .before .before .args .task) s there
-    (rw q (sym (c .before .low-in-d2 .ensures) ∙ c .if1 .taken))
+    let s = c .before .before in
+    λ t u e x n g there q.
+    record {
+      counts = n;
+      says =
+          release-low (whole s t u e x) (s .args .task) g there
+          (rw q (sym (c .before .low-in-d2 .ensures) ∙ c .if1 .taken));
+    }
 
 element-copy-out-if2 : tie.Need-element-copy-out-if2
 element-copy-out-if2 c = search needs
 
 returns-2 : tie.Need-returns-2
 returns-2 c =
-    λ t u e r s there q.
-    release-full (whole (c .before .before .before .before) t u e r) (c .before .before .before .before .args .task) s
-    there (rw q (sym (c .before .before .before .low-in-d2 .ensures) ∙ c .before .before .if1 .left))
-    (c .if2 .taken)
+    let d = c .before .before in
+    let s = d .before .before in
+    λ t u e x n g there q.
+    record {
+      counts = n;
+      says = release-full (whole s t u e x) (s .args .task) g there (level-taken d t q) (c .if2 .taken);
+    }
 
 returns-3 : tie.Need-returns-3
 returns-3 c =
-    λ t u e r s there q.
-    release-spent (whole (c .before .before .before .before .before) t u e r)
-    (c .before .before .before .before .before .args .task) s there
-    (rw q (sym (c .before .before .before .before .low-in-d2 .ensures) ∙ c .before .before .before .if1 .left))
-    (c .before .if2 .left)
-    (c .if3 .taken)
+    let f = c .before .before in
+    let d = f .before .before in
+    let s = d .before .before in
+    λ t u e x n g there q.
+    record {
+      counts = n;
+      says = release-spent (whole s t u e x) (s .args .task) g there (level-taken d t q) (f .if2 .left) (c .if3 .taken);
+    }
 
 element-copy-out-waiting : tie.Need-element-copy-out-waiting
 element-copy-out-waiting c = search needs
@@ -51,30 +68,23 @@ add-waiting c = search needs
 element-write-waiting : tie.Need-element-write-waiting
 element-write-waiting c = search needs
 
-add-more : tie.Need-add-more
-add-more c = search needs
+add-accepted : tie.Need-add-accepted
+add-accepted c = search needs
 
 returns-4 : tie.Need-returns-4
 returns-4 c =
-    λ t u e r s there q.
-    release-taken (whole (c .before .before .before .before .before .before) t u e r)
-    (c .before .before .before .before .before .before .args .task) s there
-    (rw q
-    (sym (c .before .before .before .before .before .low-in-d2 .ensures) ∙ c .before .before .before .before .if1 .left))
-    (c .before .before .if2 .left)
-    (c .before .if3 .left)
+    let a = c .before .before .before in
+    let f = a .before .before in
+    let d = f .before .before in
+    let s = d .before .before in
+    λ t u e x n g there q.
+    record {
+      counts = record { servers = n .servers; tasks = n .tasks };
+      says = release-taken (whole s t u e x) (s .args .task) g there (level-taken d t q) (f .if2 .left) (a .if3 .left);
+    }
 
 pub admit-spec : {M : Type 1} → statement M
 admit-spec =
     tie.close
-    (tie.spec
-    low-in-d2-requires
-    returns
-    element-copy-out-if2
-    returns-2
-    returns-3
-    element-copy-out-waiting
-    add-waiting
-    element-write-waiting
-    add-more
-    returns-4)
+    (tie.spec low-in-d2-requires returns element-copy-out-if2 returns-2 returns-3
+    element-copy-out-waiting add-waiting element-write-waiting add-accepted returns-4)

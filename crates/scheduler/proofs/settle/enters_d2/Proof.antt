@@ -2,7 +2,7 @@
 use mathlib.Core.Path.{_≡_, refl, sym, _∙_}
 use mathlib.Core.Bool.{Bool, true, false, not, _&&_}
 use borrow.Author.Needs.{needs}
-use Rattle.run.specs.Sound.{isD2}
+use Rattle.table.specs.Rows.{isD2}
 use Rattle.scheduler.proofs.settle.enters_d2.Statement.{statement}
 use Rattle.scheduler.proofs.settle.enters_d2.Tie as tie
 

@@ -1,7 +1,7 @@
 -- `scheduler::settle::judge_job` meets its contract. Assumes nothing.
-use mathlib.Core.Path.{_∙_}
-use Rattle.scheduler.proofs.Judging.{thrice-d1, thrice-d2}
+use mathlib.Core.Path.{_∙_, refl}
 use borrow.Author.Needs.{needs}
+use Rattle.scheduler.proofs.Inner.Steps.{thrice-d1, thrice-d2}
 use Rattle.scheduler.proofs.settle.judge_job.Statement.{statement}
 use Rattle.scheduler.proofs.settle.judge_job.Tie as tie
 
@@ -24,24 +24,16 @@ judge-in-d2-requires : tie.Need-judge-in-d2-requires
 judge-in-d2-requires c κs = search needs
 
 returns : tie.Need-returns
-returns c = rw (c .before .enum-told .given .1) (c .judge-in-n .ensures)
+returns c = λ k e f. rw (c .before .enum-told .given .1) (c .judge-in-n .ensures k e f)
 
 returns-2 : tie.Need-returns-2
-returns-2 c = rw (c .before .enum-told2 .given .1) (c .judge-in-d1 .ensures ∙ thrice-d1 _ _)
+returns-2 c = λ k e f. rw (c .before .enum-told2 .given .1) (c .judge-in-d1 .ensures k e f ∙ thrice-d1 k _)
 
 returns-3 : tie.Need-returns-3
-returns-3 c = rw (c .before .enum-told3 .given .1) (c .judge-in-d2 .ensures ∙ thrice-d2 _ _)
+returns-3 c = λ k e f. rw (c .before .enum-told3 .given .1) (c .judge-in-d2 .ensures (k .level) k e refl ∙ thrice-d2 k _)
 
 pub judge-job-spec : {M : Type 1} → statement M
 judge-job-spec =
     tie.close
-    (tie.spec
-    enum-told
-    judge-in-n-requires
-    enum-told-2
-    judge-in-d1-requires
-    enum-told-3
-    judge-in-d2-requires
-    returns
-    returns-2
-    returns-3)
+    (tie.spec enum-told judge-in-n-requires enum-told-2 judge-in-d1-requires enum-told-3
+    judge-in-d2-requires returns returns-2 returns-3)

@@ -1,39 +1,35 @@
--- `scheduler::settle::refill` meets its contract: the rows passed are refilled, the others as they were. Assumes
--- nothing.
+-- `scheduler::settle::refill` meets its contract: the rows passed are refilled, the others as they
+-- were. Assumes nothing.
 use mathlib.Core.Path.{_≡_, ap, _∙_}
 use Prim.Native.Nat.{_≤_, _-_}
 use native.Mathlib.Omega.{arith}
-use lib.Dec.{eqb}
 use lib.ListN.{getD}
-use Rattle.laws.specs.Choice.{if_then_else_}
+use lib.Dec.{eqb}
 use Rattle.laws.specs.Rows.{anew}
+use Rattle.laws.specs.Choice.{if_then_else_}
 use Rattle.laws.proofs.Anew.{anew-none}
-use Rattle.scheduler.specs.Sheets.{serversIn}
-use Rattle.scheduler.specs.Settle.{refilled}
-use Rattle.scheduler.proofs.Rows.{refill-put}
+use Rattle.scheduler.proofs.Inner.Steps.{refilled, refill-put, refills-is}
 use Rattle.scheduler.proofs.settle.refill.Statement.{statement}
 use Rattle.scheduler.proofs.settle.refill.Tie as tie
 
 abbrev Inv-loop : tie.InvT-loop
-Inv-loop n ranks times used₀ elapsed₀ i₀ used elapsed i =
-    (i ≤ n)
-    × (used ≡ anew i (refilled (serversIn ranks times) elapsed₀) used₀)
-    × (elapsed ≡ anew i (refilled (serversIn ranks times) elapsed₀) elapsed₀)
+Inv-loop n servers used₀ elapsed₀ i₀ used elapsed i =
+    (i ≤ n) × (used ≡ anew i (refilled servers elapsed₀) used₀) × (elapsed ≡ anew i (refilled servers elapsed₀) elapsed₀)
 
 abbrev μ-loop : tie.MeasureT-loop
-μ-loop n ranks times used₀ elapsed₀ i₀ used elapsed i = n - i
+μ-loop n servers used₀ elapsed₀ i₀ used elapsed i = n - i
 
 loop-holds : tie.Need-loop-holds Inv-loop μ-loop
 loop-holds c = (omega arith, anew-none _ _, anew-none _ _)
-
-server-at-requires : tie.Need-server-at-requires Inv-loop μ-loop
-server-at-requires c κs = omega arith
 
 mul-over : tie.Need-mul-over Inv-loop μ-loop
 mul-over c = omega arith
 
 element-copy-out-over : tie.Need-element-copy-out-over Inv-loop μ-loop
 element-copy-out-over c = omega arith
+
+server-cell-requires : tie.Need-server-cell-requires Inv-loop μ-loop
+server-cell-requires c κs = omega arith
 
 mul-left-of : tie.Need-mul-left-of Inv-loop μ-loop
 mul-left-of c = omega arith
@@ -73,11 +69,11 @@ loop-less c = omega arith
 
 loop-again : tie.Need-loop-again Inv-loop μ-loop
 loop-again c =
-    let d = c .before .before .before .before .before .before in
-    let l = d .before .before .loop in
-    let a = d .before .before .before .args in
-    let ss = serversIn (a .ranks .now) (a .times .now) in
-    let over = ap (λ s. eqb (getD (l .elapsed) (l .i) 0) (s .period .0)) (d .server-at .ensures) in (
+    let d = c .before .before .before .before in
+    let l = d .before .before .before .loop in
+    let a = d .before .before .before .before .args in
+    let ss = a .servers .now in
+    let over = ap (λ p. eqb (getD (l .elapsed) (l .i) 0) p) (d .server-cell .ensures) in (
       omega arith,
       refill-put ss (a .elapsed .now) (l .elapsed) (a .used .now) (l .used) (l .i) (l .inv .2) (l .inv .1) _
           (c .before .before .left-of .ensures ∙ ap (λ b. if b then 0 else getD (l .used) (l .i) 0) over),
@@ -87,30 +83,15 @@ loop-again c =
 
 returns : tie.Need-returns Inv-loop μ-loop
 returns c =
-    let e : c .before .loop .i ≡ c .before .before .args .n = omega arith in
-    (rw (← e) (c .before .loop .inv .1), rw (← e) (c .before .loop .inv .2))
+    let l = c .before .loop in
+    let a = c .before .before .args in
+    let e : l .i ≡ a .n = omega arith in
+    refills-is (a .n) (a .servers .now) (a .used .now) (a .elapsed .now) (l .used) (l .elapsed) (rw (← e) (l .inv .1)) (rw (← e) (l .inv .2))
 
 pub refill-spec : {M : Type 1} → statement M
 refill-spec =
     tie.close
-    (tie.spec
-    Inv-loop
-    μ-loop
-    loop-holds
-    server-at-requires
-    mul-over
-    element-copy-out-over
-    mul-left-of
-    element-copy-out-left-of
-    left-of-requires
-    mul-used
-    element-write-used
-    mul-left-of-2
-    element-copy-out-left-of-2
-    left-of-requires-2
-    mul-elapsed
-    element-write-elapsed
-    add-i
-    loop-less
-    loop-again
-    returns)
+    (tie.spec Inv-loop μ-loop loop-holds mul-over element-copy-out-over server-cell-requires
+    mul-left-of element-copy-out-left-of left-of-requires mul-used element-write-used mul-left-of-2
+    element-copy-out-left-of-2 left-of-requires-2 mul-elapsed element-write-elapsed add-i loop-less
+    loop-again returns)

@@ -1,4 +1,5 @@
--- `scheduler::settle::some_waits` meets its contract: no task passed has a waiting job. Assumes nothing.
+-- `scheduler::settle::some_waits` meets its contract: no task passed has a waiting job. Assumes
+-- nothing.
 use mathlib.Core.Path.{_≡_, sym}
 use mathlib.Core.Bool.{false}
 use Prim.Native.Nat.{ℕ, _≤_, _<_, _-_}
@@ -6,7 +7,7 @@ use native.Mathlib.Omega.{arith}
 use borrow.Author.Count.{below-more}
 use borrow.Author.Tests.{lt-ltb, le-ltb}
 use Rattle.laws.proofs.Rows.{any-at, none-build}
-use Rattle.scheduler.specs.Settle.{waitsAt}
+use Rattle.scheduler.specs.Inner.Steps.{waitsAt}
 use Rattle.scheduler.proofs.settle.some_waits.Statement.{statement}
 use Rattle.scheduler.proofs.settle.some_waits.Tie as tie
 
@@ -42,13 +43,5 @@ returns-2 c = sym (none-build _ _ (λ j h. c .before .loop .inv .1 j (omega arit
 pub some-waits-spec : {M : Type 1} → statement M
 some-waits-spec =
     tie.close
-    (tie.spec
-    Inv-loop
-    μ-loop
-    loop-holds
-    element-copy-out-if1
-    returns
-    add-k
-    loop-less
-    loop-again
+    (tie.spec Inv-loop μ-loop loop-holds element-copy-out-if1 returns add-k loop-less loop-again
     returns-2)

@@ -1,0 +1,5 @@
+pub mod Columns
+pub mod Steps
+pub mod Choose
+pub mod Events
+pub mod Many

@@ -1,0 +1,256 @@
+-- The steps of a tick on the parts of a run, case by case as the code makes them. Assumes nothing.
+use mathlib.Core.Path.{_≡_, refl, sym, ap, _∙_}
+use mathlib.Core.Bool.{Bool, true, false}
+use mathlib.Core.List.{List}
+use mathlib.Core.Logic.{_⊎_, inl, inr}
+use Prim.Native.Nat.{ℕ, suc, _+_, _-_, _≤_, _<_}
+use native.Mathlib.Omega.{arith}
+use native.Mathlib.Nat.{add-zero}
+use lib.Dec.{eqb}
+use lib.ListN.{length, getD, set, length-set}
+use lib.Seq.{ext-getD, getD-set-same, getD-set-other}
+use borrow.Author.Tests.{eq-eqb, ne-eqb}
+use Rattle.laws.specs.Choice.{if_then_else_}
+use Rattle.laws.specs.Rows.{anew, anyBelow, sumBelow}
+use Rattle.laws.proofs.Choice.{le-or-lt}
+use Rattle.laws.proofs.Anew.{length-anew, anew-at, anew-past, anew-cong, anew-same, anew-row, anew-put, anew-stay}
+use Rattle.laws.proofs.Rows.{sum-next, sum-cong, sum-zero}
+use Rattle.table.specs.declared.Level.{Level}
+use Rattle.table.specs.declared.Level.the-variants.{LO, MI, HI}
+use Rattle.table.specs.declared.Mode.{Mode}
+use Rattle.table.specs.declared.Mode.the-variants.{N, D1, D2}
+use Rattle.table.specs.declared.Table.{Table}
+use Rattle.table.specs.declared.Task.{Task}
+use Rattle.table.specs.Rows.{periodAt, taskAt, inMode, isLow}
+use Rattle.run.specs.declared.Judged.{Judged}
+use Rattle.run.specs.declared.Last.the-variants.{NoJob, Job}
+use Rattle.run.specs.declared.Left.{Left}
+use Rattle.run.specs.declared.Left.the-variants.{Nobody, Done, Cut}
+use Rattle.run.specs.declared.State.{State}
+use Rattle.run.specs.declared.Turn.{Turn}
+use Rattle.run.specs.declared.Turn.the-variants.{Run as Ran, Empty, Idle}
+use Rattle.run.specs.Answers.{one}
+use Rattle.run.specs.State.{someWaits, withMode}
+use Rattle.run.specs.Tick.{judge, onward, atLimit, step1, enters, drops, discards, step2, step3, step4, settle, step5, step6, step7, advance}
+use Rattle.run.proofs.Tick.{one-same}
+use Rattle.run.proofs.Steps.{same-or-not, one-past}
+use Rattle.scheduler.specs.declared.parts.Head.{Head}
+use Rattle.scheduler.specs.Inner.Parts.{stateOf, atMode}
+use Rattle.scheduler.specs.Inner.Steps.{keptOf, goneOf, Discards, waitsAt, SettlesMode, Refills, Charges, afterRun, later, RunsFront, Ages}
+use Rattle.scheduler.proofs.Inner.Columns.{low-on, period-on}
+
+-- Step 1: a job is judged at its mode's limit, then at the next.
+pub below-limit : (n : ℕ) (k : Task) (c : ℕ) (m : Mode) → (c ≡ inMode (k .limit) m .0 → ⊥) →
+    record { mode = m; cut = false } ≡ judge (suc n) k c m
+unfolding judge
+below-limit n k c m h = rw (ne-eqb c (inMode (k .limit) m .0) h)
+
+pub last-judged : (k : Task) (c : ℕ) → record { mode = D2; cut = eqb c (k .limit .d2 .0) } ≡ judge 1 k c D2
+unfolding judge
+last-judged k c = go (eqb c (k .limit .d2 .0))
+  where
+    go : (b : Bool) →
+        _≡_ {A = Judged} (record { mode = D2; cut = b })
+        (if b then record { mode = D2; cut = true } else record { mode = D2; cut = false })
+    go true = refl
+    go false = refl
+
+low-cut : (again : Mode → Judged) (l : Level) → isLow l ≡ true →
+    record { mode = D1; cut = true } ≡ onward again D1 (atLimit D1 l)
+low-cut again LO e = refl
+low-cut again MI e = cc
+low-cut again HI e = cc
+
+others-rise : (again : Mode → Judged) (l : Level) → isLow l ≡ false → again D2 ≡ onward again D1 (atLimit D1 l)
+others-rise again LO e = cc
+others-rise again MI e = refl
+others-rise again HI e = refl
+
+pub cut-in-d1 : (k : Task) (c : ℕ) → c ≡ k .limit .d1 .0 → isLow (k .level) ≡ true →
+    record { mode = D1; cut = true } ≡ judge 2 k c D1
+unfolding judge
+cut-in-d1 k c h l = rw (eq-eqb c (k .limit .d1 .0) h) (low-cut (judge 1 k c) (k .level) l)
+
+pub rise-from-d1 : (k : Task) (c : ℕ) → c ≡ k .limit .d1 .0 → isLow (k .level) ≡ false → judge 1 k c D2 ≡ judge 2 k c D1
+unfolding judge
+rise-from-d1 k c h l = rw (eq-eqb c (k .limit .d1 .0) h) (others-rise (judge 1 k c) (k .level) l)
+
+pub rise-from-n : (k : Task) (c : ℕ) → c ≡ k .limit .n .0 → judge 2 k c D1 ≡ judge 3 k c N
+unfolding judge
+rise-from-n k c h = rw (eq-eqb c (k .limit .n .0) h)
+
+-- three times are enough for any mode
+pub thrice-d1 : (k : Task) (c : ℕ) → judge 2 k c D1 ≡ judge 3 k c D1
+unfolding judge
+thrice-d1 k c = ap (λ j. if eqb c (k .limit .d1 .0) then j else record { mode = D1; cut = false }) (go (k .level))
+  where
+    go : (l : Level) → onward (judge 1 k c) D1 (atLimit D1 l) ≡ onward (judge 2 k c) D1 (atLimit D1 l)
+    go LO = refl
+    go MI = refl
+    go HI = refl
+
+pub thrice-d2 : (k : Task) (c : ℕ) → judge 1 k c D2 ≡ judge 3 k c D2
+unfolding judge
+thrice-d2 k c = refl
+
+module _ (t : Table) (h : Head) (u e w c : List ℕ) (mark : Bool) where
+  pub no-job : h .last ≡ NoJob →
+      step1 t (stateOf h u e w c) mark (h .last) ≡ record { state = stateOf h u e w c; left = Nobody }
+  unfolding step1
+  no-job q = rw q
+
+  module _ (k : ℕ) (q : h .last ≡ Job k) where
+    pub done : mark ≡ true →
+        step1 t (stateOf h u e w c) mark (h .last)
+        ≡ record { state = stateOf h u e (set w k (getD w k 0 - 1)) (set c k 0); left = Done k }
+    unfolding step1
+    done m = rw (q, m)
+
+    module _ (m : mark ≡ false) (j : Judged) (p : j ≡ judge 3 (taskAt t k) (getD c k 0) (h .mode)) where
+      pub cut : j .cut ≡ true →
+          step1 t (stateOf h u e w c) mark (h .last)
+          ≡ record { state = stateOf (atMode h (j .mode)) u e (set w k (getD w k 0 - 1)) (set c k 0); left = Cut k }
+      unfolding step1
+      cut f = rw (q, m, ← p, f)
+
+      pub stays : j .cut ≡ false →
+          step1 t (stateOf h u e w c) mark (h .last)
+          ≡ record { state = stateOf (atMode h (j .mode)) u e w c; left = Nobody }
+      unfolding step1
+      stays f = rw (q, m, ← p, f)
+
+-- Step 2: the counts of a task are cleared exactly if its level is LO, and its jobs counted.
+module _ (ks xs ys : List ℕ) (k : ℕ) (e : ys ≡ anew k (keptOf ks) xs) where
+  pub drop-put : eqb (getD ks (192 + k) 0) 0 ≡ true → set ys k 0 ≡ anew (k + 1) (keptOf ks) xs
+  drop-put l = anew-put (keptOf ks) xs ys k 0 e 0 (rw l)
+
+  pub drop-stay : eqb (getD ks (192 + k) 0) 0 ≡ false → ys ≡ anew (k + 1) (keptOf ks) xs
+  drop-stay l = anew-stay (keptOf ks) xs ys k 0 e (rw l)
+
+  pub drop-count : (n : ℕ) → n ≡ sumBelow k (λ j. goneOf ks j (getD xs j 0)) → eqb (getD ks (192 + k) 0) 0 ≡ true →
+      n + getD ys k 0 ≡ sumBelow (k + 1) (λ j. goneOf ks j (getD xs j 0))
+  drop-count n h l = rw (h, anew-row (keptOf ks) xs ys k 0 e, sum-next (λ j. goneOf ks j (getD xs j 0)) k) (rw l)
+
+pub drop-none : (ks xs : List ℕ) (k n : ℕ) → n ≡ sumBelow k (λ j. goneOf ks j (getD xs j 0)) →
+    eqb (getD ks (192 + k) 0) 0 ≡ false → n ≡ sumBelow (k + 1) (λ j. goneOf ks j (getD xs j 0))
+drop-none ks xs k n h l = rw (h, sum-next (λ j. goneOf ks j (getD xs j 0)) k) (rw (l, add-zero))
+
+module _ (h : Head) (before : Mode) (ks w c : List ℕ) where
+  pub discards-not : enters before (h .mode) ≡ false → Discards h before ks w c w c 0
+  unfolding step2 discards drops
+  discards-not q t u e p n =
+      let s = stateOf h u e w c in
+      let same : (k x : ℕ) → (if drops t before s k then 0 else x) ≡ x = λ k x. rw q in (
+        rw (
+          anew-same (t .ntasks) (λ k x. if drops t before s k then 0 else x) w same,
+          anew-same (t .ntasks) (λ k x. if drops t before s k then 0 else x) c same,
+        ),
+        sum-zero (discards t before s) (t .ntasks) (λ k l. rw q),
+      )
+
+  pub discards-entered : (w′ c′ : List ℕ) (n : ℕ) → enters before (h .mode) ≡ true → w′ ≡ anew (h .ntasks) (keptOf ks) w →
+      c′ ≡ anew (h .ntasks) (keptOf ks) c → n ≡ sumBelow (h .ntasks) (λ k. goneOf ks k (getD w k 0)) →
+      Discards h before ks w c w′ c′ n
+  unfolding step2 discards drops
+  discards-entered w′ c′ n q pw pc pn t u e p m =
+      let s = stateOf h u e w c in
+      let same : (k x : ℕ) → k < t .ntasks → (if drops t before s k then 0 else x) ≡ keptOf ks k x =
+      λ k x l. rw (q, low-on t ks p k l) in (
+        rw (
+          pw,
+          pc,
+          m,
+          anew-cong (t .ntasks) (λ k x. if drops t before s k then 0 else x) (keptOf ks) w same,
+          anew-cong (t .ntasks) (λ k x. if drops t before s k then 0 else x) (keptOf ks) c same,
+        ),
+        rw (pn, m)
+            (sum-cong (discards t before s) (λ k. goneOf ks k (getD w k 0)) (t .ntasks) (λ k l. rw (q, low-on t ks p k l))),
+      )
+
+-- Step 3.
+pub mode-is : (h : Head) (w : List ℕ) (m : Mode) → m ≡ (if anyBelow (h .ntasks) (waitsAt w) then h .mode else N) → SettlesMode h w m
+unfolding step3 someWaits
+mode-is h w m q t u e c n = rw (q, n) (go (anyBelow (t .ntasks) (waitsAt w)))
+  where
+    go : (b : Bool) →
+        (if b then stateOf h u e w c else withMode (stateOf h u e w c) N)
+        ≡ stateOf (atMode h (if b then h .mode else N)) u e w c
+    go true = refl
+    go false = refl
+
+-- Step 4: a row is refilled exactly if its elapsed count, as it was, equals its period.
+abbrev pub refilled : List ℕ → List ℕ → ℕ → ℕ → ℕ
+refilled ss e i x = if eqb (getD e i 0) (getD ss (64 + i) 0) then 0 else x
+
+pub refill-put : (ss e₀ e xs ys : List ℕ) (i : ℕ) → e ≡ anew i (refilled ss e₀) e₀ → ys ≡ anew i (refilled ss e₀) xs → (v : ℕ) →
+    v ≡ (if eqb (getD e i 0) (getD ss (64 + i) 0) then 0 else getD ys i 0) → set ys i v ≡ anew (i + 1) (refilled ss e₀) xs
+refill-put ss e₀ e xs ys i p q v h =
+    anew-put (refilled ss e₀) xs ys i 0 q v (rw (h, anew-row (refilled ss e₀) e₀ e i 0 p))
+
+pub refills-is : (n : ℕ) (ss u e u′ e′ : List ℕ) → u′ ≡ anew n (refilled ss e) u → e′ ≡ anew n (refilled ss e) e →
+    Refills n ss u e u′ e′
+unfolding step4
+refills-is n ss u e u′ e′ pu pe t h w c p m =
+    let f : ℕ → ℕ → ℕ = λ i x. if eqb (getD e i 0) (periodAt t i) then 0 else x in
+    let same : (i x : ℕ) → i < t .nservers → refilled ss e i x ≡ f i x = λ i x l. rw (period-on t ss p i l) in
+    rw (pu, pe, m, anew-cong (t .nservers) (refilled ss e) f u same, anew-cong (t .nservers) (refilled ss e) f e same)
+
+-- Steps 1 to 4 put together.
+pub settled-is : (t : Table) (s : State) (mark : Bool) (s₁ s₂ s₃ z : State) (l : Left) (n : ℕ) →
+    step1 t s mark (s .last) ≡ record { state = s₁; left = l } → step2 t (s .mode) s₁ ≡ s₂ →
+    sumBelow (t .ntasks) (discards t (s .mode) s₁) ≡ n → step3 t s₂ ≡ s₃ → step4 t s₃ ≡ z →
+    (settle t s mark .state ≡ z) × (settle t s mark .left ≡ l) × (sumBelow (t .ntasks) (settle t s mark .discarded) ≡ n)
+unfolding settle
+settled-is t s mark s₁ s₂ s₃ z l n e₁ e₂ e e₃ e₄ = (rw (e₁, e₂, e₃) e₄, rw e₁, rw e₁ e)
+
+-- One row is one more: as a definition has it, and as a store has it.
+pub anew-one : (n j : ℕ) (xs : List ℕ) → j < n → anew n (λ i x. x + one j i) xs ≡ set xs j (getD xs j 0 + 1)
+anew-one n j xs h =
+    ext-getD 0 (anew n f xs) (set xs j v) (length-anew n f xs ∙ sym (length-set xs j v))
+    (λ i l. let m : i < length xs = omega (arith, length-anew n f xs) in go i m (same-or-not j i))
+  where
+    f : ℕ → ℕ → ℕ
+    f = λ i x. x + one j i
+
+    v : ℕ
+    v = getD xs j 0 + 1
+
+    other : (i : ℕ) → i < length xs → (j ≡ i → ⊥) → (n ≤ i) ⊎ (i < n) → getD (anew n f xs) i 0 ≡ getD xs i 0
+    other i l d (inl b) = anew-past n f xs i 0 b
+    other i l d (inr b) = anew-at n f xs i 0 b l ∙ rw (one-past j i d) (add-zero (getD xs i 0))
+
+    go : (i : ℕ) → i < length xs → (j ≡ i) ⊎ (j ≡ i → ⊥) → getD (anew n f xs) i 0 ≡ getD (set xs j v) i 0
+    go i l (inl e) =
+        rw (← e) (anew-at n f xs j 0 h (omega arith) ∙ rw (one-same j) (sym (getD-set-same xs j v 0 (omega arith))))
+    go i l (inr d) = other i l d (le-or-lt n i) ∙ sym (getD-set-other xs j i v 0 (λ q. d (sym q)))
+
+unchanged : (n : ℕ) (xs : List ℕ) → anew n (λ i x. x + 0) xs ≡ xs
+unchanged n xs = anew-same n (λ i x. x + 0) xs (λ i x. add-zero x)
+
+-- Steps 5, 6 and 7, turn by turn.
+module _ (i k : ℕ) (xs ys : List ℕ) where
+  pub charges-run : ys ≡ set xs i (getD xs i 0 + 1) → Charges (Ran i k) xs ys
+  charges-run q t h e w c l = ap (λ x. stateOf h x e w c) (anew-one (t .nservers) i xs l ∙ sym q)
+
+  pub charges-empty : ys ≡ set xs i (getD xs i 0 + 1) → Charges (Empty i) xs ys
+  charges-empty q t h e w c l = ap (λ x. stateOf h x e w c) (anew-one (t .nservers) i xs l ∙ sym q)
+
+  pub runs-run : ys ≡ set xs k (getD xs k 0 + 1) → RunsFront (Ran i k) xs ys
+  runs-run q t h u e w l = ap (λ x. stateOf (afterRun h (Ran i k)) u e w x) (anew-one (t .ntasks) k xs l ∙ sym q)
+
+pub charges-idle : (xs : List ℕ) → Charges Idle xs xs
+charges-idle xs t h e w c l = ap (λ x. stateOf h x e w c) (unchanged (t .nservers) xs)
+
+pub runs-empty : (i : ℕ) (xs : List ℕ) → RunsFront (Empty i) xs xs
+runs-empty i xs t h u e w l = ap (λ x. stateOf (afterRun h (Empty i)) u e w x) (unchanged (t .ntasks) xs)
+
+pub runs-idle : (xs : List ℕ) → RunsFront Idle xs xs
+runs-idle xs t h u e w l = ap (λ x. stateOf (afterRun h Idle) u e w x) (unchanged (t .ntasks) xs)
+
+pub ages-is : (n : ℕ) (xs ys : List ℕ) → ys ≡ anew n (λ i e. e + 1) xs → Ages n xs ys
+ages-is n xs ys q t h u w c m = ap (λ x. stateOf (later h) u x w c) (ap (λ k. anew k (λ i e. e + 1) xs) (sym m) ∙ sym q)
+
+pub advance-is : (t : Table) (turn : Turn) (s s₁ s₂ z : State) → step5 t s turn ≡ s₁ → step6 t s₁ turn ≡ s₂ →
+    step7 t s₂ ≡ z → advance t s turn ≡ z
+unfolding advance
+advance-is t turn s s₁ s₂ z e₁ e₂ e₃ = ap (λ x. step7 t (step6 t x turn)) e₁ ∙ ap (step7 t) e₂ ∙ e₃

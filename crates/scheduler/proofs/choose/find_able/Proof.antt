@@ -1,0 +1,130 @@
+-- `scheduler::choose::find_able` meets its contract: the walk keeps the highest able server among
+-- the servers passed. Assumes nothing.
+use mathlib.Core.List.{List}
+use mathlib.Core.Logic.{⊎-elim}
+use mathlib.Core.Path.{_≡_, sym, ap, subst, _∙_}
+use Prim.Native.Nat.{ℕ, _+_, _≤_, _<_, _-_}
+use native.Mathlib.Omega.{arith}
+use lib.Dec.{ltb}
+use lib.ListN.{getD}
+use Rattle.table.specs.Rows.{priorityAt}
+use Rattle.table.specs.declared.Table.{Table}
+use Rattle.run.specs.Tick.{able}
+use Rattle.run.specs.State.{waits}
+use Rattle.scheduler.specs.declared.parts.Head.{Head}
+use Rattle.scheduler.specs.Inner.Columns.{ServersOn}
+use Rattle.scheduler.specs.Inner.Parts.{stateOf}
+use Rattle.scheduler.specs.Inner.Choose.{capacityColumn}
+use Rattle.scheduler.proofs.Inner.Choose.{Top, top-none, top-skip, top-take, top-keep, able-is, able-found}
+use Rattle.scheduler.proofs.Inner.Columns.{priority-on}
+use Rattle.scheduler.proofs.choose.find_able.Statement.{statement}
+use Rattle.scheduler.proofs.choose.find_able.Tie as tie
+
+abbrev Inv-loop : tie.InvT-loop
+Inv-loop servers used height column best₀ high₀ i₀ i-end best high i =
+    (i ≤ i-end)
+    × ((t : Table) (h : Head) (e w c : List ℕ) → column ≡ capacityColumn (h .mode) → ServersOn t servers → i-end ≡ t .nservers →
+    ((j : ℕ) → j < t .nservers → 1 ≤ priorityAt t j) →
+    ((j : ℕ) → j < t .nservers → ltb 0 (getD height j 0) ≡ waits t (stateOf h used e w c) j) →
+    Top i (able t (stateOf h used e w c)) (priorityAt t) high best)
+
+abbrev μ-loop : tie.MeasureT-loop
+μ-loop servers used height column best₀ high₀ i₀ i-end best high i = i-end - i
+
+capacity-column-requires : tie.Need-capacity-column-requires Inv-loop μ-loop
+capacity-column-requires c κs = tt
+
+loop-holds : tie.Need-loop-holds Inv-loop μ-loop
+loop-holds c = (omega arith, λ t h e w x q on n g f. top-none _ _ 0)
+
+server-cell-requires : tie.Need-server-cell-requires Inv-loop μ-loop
+server-cell-requires c κs = omega (arith, c .loop-test .taken, c .before .before .before .pre)
+
+server-cell-requires-2 : tie.Need-server-cell-requires-2 Inv-loop μ-loop
+server-cell-requires-2 c κs =
+    let l = c .before .before in
+    omega (arith, l .loop-test .taken, l .before .before .capacity-column .ensures .1, l .before .before .before .pre)
+
+server-cell-requires-3 : tie.Need-server-cell-requires-3 Inv-loop μ-loop
+server-cell-requires-3 c κs =
+    let l = c .before .before .before in
+    omega (arith, l .loop-test .taken, l .before .before .before .pre)
+
+mul-is-able : tie.Need-mul-is-able Inv-loop μ-loop
+mul-is-able c = omega arith
+
+element-copy-out-is-able : tie.Need-element-copy-out-is-able Inv-loop μ-loop
+element-copy-out-is-able c = omega arith
+
+mul-is-able-2 : tie.Need-mul-is-able-2 Inv-loop μ-loop
+mul-is-able-2 c = omega arith
+
+element-copy-out-is-able-2 : tie.Need-element-copy-out-is-able-2 Inv-loop μ-loop
+element-copy-out-is-able-2 c = omega arith
+
+is-able-requires : tie.Need-is-able-requires Inv-loop μ-loop
+is-able-requires c κs = tt
+
+add-i : tie.Need-add-i Inv-loop μ-loop
+add-i c = omega arith
+
+loop-less : tie.Need-loop-less Inv-loop μ-loop
+loop-less c = omega arith
+
+loop-again : tie.Need-loop-again Inv-loop μ-loop
+loop-again c =
+    let d = c .before in
+    let l = d .before .before .loop in
+    let a = d .before .before .before .before .args in
+    let u = a .used .now in
+    let ss = a .servers .now in
+    let there : (t : Table) → a .h .nservers ≡ t .nservers → l .i < t .nservers =
+    λ t n. omega (arith, d .before .loop-test .taken, n) in
+    let high : (t : Table) → ServersOn t ss → a .h .nservers ≡ t .nservers → d .server-cell .result ≡ priorityAt t (l .i) =
+    λ t on n. d .server-cell .ensures ∙ priority-on t ss on (l .i) (there t n) in
+    ⊎-elim
+    (λ v. (
+      omega arith,
+      λ t h e w x q on n g f.
+          rw (v .7, v .8 ∙ high t on n)
+          (top-take (able t (stateOf h u e w x)) (priorityAt t) (l .i) (l .high) (l .best) (l .inv .1 t h e w x q on n g f)
+          (sym (able-is t (stateOf h u e w x) ss (l .i) (v .1 .result) (v .2 .result) (getD (a .height .now) (l .i) 0) on (there t n)
+          (v .1 .ensures ∙ ap (λ y. getD ss (y + l .i) 0) q) (v .2 .ensures) (f (l .i) (there t n)))
+          ∙ sym (v .5 .ensures) ∙ v .6 .taken)
+          (subst (λ y. l .high < y) (high t on n) (v .0 .taken))),
+    ))
+    (⊎-elim
+    (λ v. (
+      omega arith,
+      λ t h e w x q on n g f.
+          rw (v .7, v .8)
+          (top-skip (able t (stateOf h u e w x)) (priorityAt t) (l .i) (l .high) (l .best) (l .inv .1 t h e w x q on n g f)
+          (sym (able-is t (stateOf h u e w x) ss (l .i) (v .1 .result) (v .2 .result) (getD (a .height .now) (l .i) 0) on (there t n)
+          (v .1 .ensures ∙ ap (λ y. getD ss (y + l .i) 0) q) (v .2 .ensures) (f (l .i) (there t n)))
+          ∙ sym (v .5 .ensures) ∙ v .6 .left)),
+    ))
+    (λ v. (
+      omega arith,
+      λ t h e w x q on n g f.
+          rw (v .1, v .2)
+          (top-keep (able t (stateOf h u e w x)) (priorityAt t) (l .i) (l .high) (l .best) (l .inv .1 t h e w x q on n g f)
+          (subst (λ y. y ≤ l .high) (high t on n) (v .0 .left)) (g (l .i) (there t n))),
+    )))
+    (c .if1 .came)
+
+returns : tie.Need-returns Inv-loop μ-loop
+returns c =
+    λ t e w x on n g f.
+    let l = c .before .loop in
+    let o = c .before .before in
+    let h = o .before .args .h in
+    let q : l .i ≡ t .nservers = omega (arith, n) in
+    able-found t (stateOf h (o .before .args .used .now) e w x) (l .high) (l .best)
+    (rw q at (l .inv .1 t h e w x (o .capacity-column .ensures .0) on n g f))
+
+pub find-able-spec : {M : Type 1} → statement M
+find-able-spec =
+    tie.close
+    (tie.spec Inv-loop μ-loop capacity-column-requires loop-holds server-cell-requires
+    server-cell-requires-2 server-cell-requires-3 mul-is-able element-copy-out-is-able mul-is-able-2
+    element-copy-out-is-able-2 is-able-requires add-i loop-less loop-again returns)

@@ -1,0 +1,45 @@
+-- `scheduler::many::answer_line` meets its contract: an event, or another line. Assumes nothing.
+use mathlib.Core.Path.{refl, ap, _∙_}
+use borrow.Author.Needs.{needs}
+use Rattle.run.specs.Values.{toldOf}
+use Rattle.scheduler.proofs.many.answer_line.Statement.{statement}
+use Rattle.scheduler.proofs.many.answer_line.Tie as tie
+
+enum-known-line : tie.Need-enum-known-line
+enum-known-line c = search needs
+
+event-in-requires : tie.Need-event-in-requires
+event-in-requires c κs = search needs
+
+told-of-requires : tie.Need-told-of-requires
+told-of-requires c κs = search needs
+
+enum-told : tie.Need-enum-told
+enum-told c = search needs
+
+number-of-requires : tie.Need-number-of-requires
+number-of-requires c κs = search needs
+
+returns : tie.Need-returns
+returns c =
+    λ t p.
+    let d = c .before .before in
+    let g = d .event-in .ensures t p in
+    rw (d .before .before .before .before .before .before .line .given .1)
+    (record {
+      counts = g .counts;
+      told = c .told-of .ensures ∙ ap (λ x. toldOf (x .answer)) (g .says);
+      run = ap (λ x. x .run) (g .says);
+    })
+
+returns-2 : tie.Need-returns-2
+returns-2 c =
+    λ t p.
+    rw (c .before .enum-told .given .1)
+    (record { counts = p .shows .counts; told = rw (c .number-of .ensures); run = refl })
+
+pub answer-line-spec : {M : Type 1} → statement M
+answer-line-spec =
+    tie.close
+    (tie.spec enum-known-line event-in-requires told-of-requires enum-told number-of-requires
+    returns returns-2)

@@ -1,0 +1,93 @@
+-- `scheduler::settle::drop_low` meets its contract: of the tasks passed those of level LO are
+-- cleared, and their jobs counted. Assumes nothing.
+use mathlib.Core.Logic.{⊎-elim}
+use mathlib.Core.Path.{_≡_, refl, sym, ap, _∙_}
+use Prim.Native.Nat.{_+_, _*_, _≤_, _-_}
+use native.Mathlib.Omega.{arith}
+use lib.ListN.{getD}
+use lib.Dec.{eqb}
+use borrow.Author.Tests.{eq-eqb, ne-eqb}
+use Rattle.laws.specs.Rows.{anew, sumBelow}
+use Rattle.laws.proofs.Anew.{anew-none}
+use Rattle.scheduler.specs.Inner.Steps.{keptOf, goneOf}
+use Rattle.scheduler.proofs.Inner.Steps.{drop-put, drop-stay, drop-count, drop-none}
+use Rattle.scheduler.proofs.settle.drop_low.Statement.{statement}
+use Rattle.scheduler.proofs.settle.drop_low.Tie as tie
+
+abbrev Inv-loop : tie.InvT-loop
+Inv-loop n tasks waiting₀ runs₀ count₀ k₀ waiting runs count k =
+    (k ≤ n) × (count ≤ k * 255) × (waiting ≡ anew k (keptOf tasks) waiting₀) × (runs ≡ anew k (keptOf tasks) runs₀)
+    × (count ≡ sumBelow k (λ j. goneOf tasks j (getD waiting₀ j 0)))
+
+abbrev μ-loop : tie.MeasureT-loop
+μ-loop n tasks waiting₀ runs₀ count₀ k₀ waiting runs count k = n - k
+
+loop-holds : tie.Need-loop-holds Inv-loop μ-loop
+unfolding sumBelow
+loop-holds c = (omega arith, omega arith, anew-none _ _, anew-none _ _, refl)
+
+task-cell-requires : tie.Need-task-cell-requires Inv-loop μ-loop
+task-cell-requires c κs = omega arith
+
+element-copy-out-job-count : tie.Need-element-copy-out-job-count Inv-loop μ-loop
+element-copy-out-job-count c = omega arith
+
+job-count-requires : tie.Need-job-count-requires Inv-loop μ-loop
+job-count-requires c κs = tt
+
+add-count : tie.Need-add-count Inv-loop μ-loop
+add-count c = omega arith
+
+element-write-waiting : tie.Need-element-write-waiting Inv-loop μ-loop
+element-write-waiting c = omega arith
+
+mul-runs : tie.Need-mul-runs Inv-loop μ-loop
+mul-runs c = omega arith
+
+element-write-runs : tie.Need-element-write-runs Inv-loop μ-loop
+element-write-runs c = omega arith
+
+add-k : tie.Need-add-k Inv-loop μ-loop
+add-k c = omega arith
+
+loop-less : tie.Need-loop-less Inv-loop μ-loop
+loop-less c = omega arith
+
+loop-again : tie.Need-loop-again Inv-loop μ-loop
+loop-again c =
+    let d = c .before in
+    let l = d .before .before .loop in
+    let a = d .before .before .before .args in
+    let ks = a .tasks .now in
+    let v = d .task-cell .ensures in
+    ⊎-elim
+    (λ w.
+    let low = ap (λ x. eqb x 0) (sym v) ∙ eq-eqb _ 0 (w .0 .taken) in (
+      omega arith,
+      omega (arith, w .2 .ensures .0, w .2 .ensures .1),
+      w .3 ∙ drop-put ks (a .waiting .now) (l .waiting) (l .k) (l .inv .2) low,
+      w .4 ∙ drop-put ks (a .runs .now) (l .runs) (l .k) (l .inv .3) low,
+      w .5 ∙ ap (λ x. l .count + x) (w .2 .ensures .0)
+          ∙ drop-count ks (a .waiting .now) (l .waiting) (l .k) (l .inv .2) (l .count) (l .inv .4) low,
+    ))
+    (λ w.
+    let high = ap (λ x. eqb x 0) (sym v) ∙ ne-eqb _ 0 (w .0 .left) in (
+      omega arith,
+      omega arith,
+      w .1 ∙ drop-stay ks (a .waiting .now) (l .waiting) (l .k) (l .inv .2) high,
+      w .2 ∙ drop-stay ks (a .runs .now) (l .runs) (l .k) (l .inv .3) high,
+      w .3 ∙ drop-none ks (a .waiting .now) (l .k) (l .count) (l .inv .4) high,
+    ))
+    (c .if1 .came)
+
+returns : tie.Need-returns Inv-loop μ-loop
+returns c =
+    let e : c .before .loop .k ≡ c .before .before .args .n = omega arith in
+    (rw (← e) (c .before .loop .inv .2), rw (← e) (c .before .loop .inv .3), rw (← e) (c .before .loop .inv .4))
+
+pub drop-low-spec : {M : Type 1} → statement M
+drop-low-spec =
+    tie.close
+    (tie.spec Inv-loop μ-loop loop-holds task-cell-requires element-copy-out-job-count
+    job-count-requires add-count element-write-waiting mul-runs element-write-runs add-k loop-less
+    loop-again returns)

@@ -1,0 +1,247 @@
+// Many event lines at once: events to answers. Soundness (13) is decided once for all of them;
+// behind that door stands a loop over the lines, which is lent the table's sheets and the counts of
+// its rows. Lines and what is told to them are plain numbers, as crate run's specs/Values.antt lays
+// them out.
+
+use crate::events;
+use crate::parts;
+use crate::parts::Head;
+use crate::sheets;
+use crate::sheets::SERVER_CELLS;
+use crate::sheets::TASK_CELLS;
+use run::Answer;
+use run::Event;
+use run::EventLine;
+use run::LINE_VALUES;
+use run::Left;
+use run::Many;
+use run::Run;
+use run::TOLD_VALUES;
+use run::Taking;
+use run::Told;
+use run::Turn;
+use table::Mode;
+use table::Refusal;
+use table::SERVERS;
+use table::TASKS;
+ghost use mathlib.Core.Path.{_≡_};
+ghost use Prim.Native.Nat.{_+_, _/_, _≤_};
+ghost use lib.ListN.{length};
+ghost use lib.Seq.{paste};
+ghost use Rattle.run.specs.Values.{lineSaid, toldOf, modeValue, turnValues, leftValues, toldValues};
+ghost use Rattle.run.specs.Many.{manyOf};
+ghost use Rattle.scheduler.specs.Inner.Events.{SomeRun};
+ghost use Rattle.scheduler.specs.Inner.Many.{LineTaken, LinesTaken};
+
+// What is told to a line, and the head after it.
+pub struct Reply {
+    pub told: Told,
+    pub head: Head,
+}
+
+fn line_said(x: u64, v: u64) -> EventLine
+    ensures { λ r. ⌜ r ≡ lineSaid x v ⌝ }
+{
+    if x == 0 {
+        return EventLine::Another;
+    }
+    if x == 1 {
+        return EventLine::Of(Event::Tick(v != 0));
+    }
+    EventLine::Of(Event::Release(v as usize))
+}
+
+fn told_of(a: Answer) -> Told
+    ensures { λ r. ⌜ r ≡ toldOf a ⌝ }
+{
+    match a {
+        Answer::Released(k) => Told::Released(k),
+        Answer::Ticked(t) => Told::Ticked(t),
+        Answer::No(why) => Told::No(table::number_of(why)),
+    }
+}
+
+fn mode_value(m: Mode) -> u64
+    ensures { λ r. ⌜ r ≡ modeValue m ⌝ }
+{
+    match m {
+        Mode::N => 0,
+        Mode::D1 => 1,
+        Mode::D2 => 2,
+    }
+}
+
+fn turn_values(turn: Turn) -> [u64; 3]
+    ensures { λ r. ⌜ r ≡ turnValues turn ⌝ }
+{
+    match turn {
+        Turn::Idle => [0, 0, 0],
+        Turn::Empty { server } => [1, server as u64, 0],
+        Turn::Run { server, task } => [2, server as u64, task as u64],
+    }
+}
+
+fn left_values(left: Left) -> [u64; 2]
+    ensures { λ r. ⌜ r ≡ leftValues left ⌝ }
+{
+    match left {
+        Left::Nobody => [0, 0],
+        Left::Done(k) => [1, k as u64],
+        Left::Cut(k) => [2, k as u64],
+    }
+}
+
+fn told_values(x: Told) -> [u64; TOLD_VALUES]
+    ensures { λ r. ⌜ r ≡ toldValues x ⌝ }
+{
+    match x {
+        Told::No(number) => [0, number, 0, 0, 0, 0, 0, 0, 0],
+        Told::Released(k) => [1, k as u64, 0, 0, 0, 0, 0, 0, 0],
+        Told::Ticked(a) => {
+            let tick = a.tick;
+            let mode = a.mode;
+            let turn = a.turn;
+            let left = a.left;
+            let m = mode_value(mode);
+            let w = turn_values(turn);
+            let l = left_values(left);
+            [
+                2,
+                tick.0 as u64,
+                m,
+                w[0],
+                w[1],
+                w[2],
+                l[0],
+                l[1],
+                a.discarded as u64,
+            ]
+        }
+    }
+}
+
+// Nine numbers written into the room from place `at` on.
+fn put_values(values: &[u64; TOLD_VALUES], room: &mut [u64], at: usize)
+    requires { ⌜ (length (now values) ≡ 9) × (at + 9 ≤ length (now room)) ⌝ }
+    ensures { λ r. ⌜ now (room .exit) ≡ paste (now (room .entry)) at (now (values .entry)) 9 ⌝ }
+{
+    for j in 0..TOLD_VALUES {
+        room[at + j] = values[j];
+    }
+}
+
+// A line: the event that it says is taken or refused; "another line .. answers `?⇥no⇥1`" and
+// changes nothing.
+fn answer_line(
+    h: Head,
+    servers: &[u32; SERVER_CELLS],
+    tasks: &[u32; TASK_CELLS],
+    used: &mut [u32; SERVERS],
+    elapsed: &mut [u32; SERVERS],
+    waiting: &mut [u8; TASKS],
+    runs: &mut [u32; TASKS],
+    line: EventLine,
+) -> Reply
+    requires { ⌜ SomeRun h (now servers) (now tasks) (now used) (now elapsed) (now waiting) (now runs) ⌝ }
+    ensures { λ r.
+        ⌜ LineTaken h (now (servers .entry)) (now (tasks .entry)) line
+        (now (used .entry)) (now (elapsed .entry)) (now (waiting .entry)) (now (runs .entry))
+        (now (used .exit)) (now (elapsed .exit)) (now (waiting .exit)) (now (runs .exit)) r ⌝ }
+{
+    match line {
+        EventLine::Of(e) => {
+            let d = events::event_in(h, servers, tasks, used, elapsed, waiting, runs, e);
+            let answer = d.answer;
+            let head = d.head;
+            let told = told_of(answer);
+            Reply { told, head }
+        }
+        EventLine::Another => {
+            let number = table::number_of(Refusal::Malformed);
+            Reply {
+                told: Told::No(number),
+                head: h,
+            }
+        }
+    }
+}
+
+// The lines one after the other: the head after them.
+fn answer_lines(
+    h: Head,
+    servers: &[u32; SERVER_CELLS],
+    tasks: &[u32; TASK_CELLS],
+    used: &mut [u32; SERVERS],
+    elapsed: &mut [u32; SERVERS],
+    waiting: &mut [u8; TASKS],
+    runs: &mut [u32; TASKS],
+    lines: &[u64],
+    told: &mut [u64],
+) -> Head
+    requires { ⌜ (length (now lines) / 2 ≤ length (now told) / 9)
+        × SomeRun h (now servers) (now tasks) (now used) (now elapsed) (now waiting) (now runs) ⌝ }
+    ensures { λ r.
+        ⌜ LinesTaken h (now (servers .entry)) (now (tasks .entry)) (now (lines .entry)) (now (told .entry))
+        (now (used .entry)) (now (elapsed .entry)) (now (waiting .entry)) (now (runs .entry))
+        (now (used .exit)) (now (elapsed .exit)) (now (waiting .exit)) (now (runs .exit)) r (now (told .exit)) ⌝ }
+{
+    let mut head = h;
+    let n = lines.len() / LINE_VALUES;
+    for i in 0..n {
+        let at = LINE_VALUES * i;
+        let line = line_said(lines[at], lines[at + 1]);
+        let r = answer_line(head, servers, tasks, used, elapsed, waiting, runs, line);
+        head = r.head;
+        let x = r.told;
+        let values = told_values(x);
+        put_values(&values, told, TOLD_VALUES * i);
+    }
+    head
+}
+
+// What is told to many event lines stands at the front of the lent room, nine numbers a line.
+// Refused: 13, then 12.
+pub fn answer_many(r: Run, lines: &[u64], told: &mut [u64]) -> Many
+    ensures { λ a.
+        ⌜ record { many = a; room = now (told .exit) } ≡ manyOf r (now (lines .entry)) (now (told .entry)) ⌝ }
+{
+    let t = r.table;
+    let s = r.state;
+    if !soundness::run_sound(t, s) {
+        return Many {
+            answer: Taking::Refused(Refusal::Unsound),
+            run: r,
+        };
+    }
+    if told.len() / TOLD_VALUES < lines.len() / LINE_VALUES {
+        return Many {
+            answer: Taking::Refused(Refusal::RoomShort),
+            run: r,
+        };
+    }
+    let h = parts::head_of(t, s);
+    let mut used = s.used;
+    let mut elapsed = s.elapsed;
+    let mut waiting = s.waiting;
+    let mut runs = s.runs;
+    let rows = t.servers;
+    let ks = t.tasks;
+    let servers = sheets::server_sheet(rows);
+    let tasks = sheets::task_sheet(ks);
+    let head = answer_lines(
+        h,
+        &servers,
+        &tasks,
+        &mut used,
+        &mut elapsed,
+        &mut waiting,
+        &mut runs,
+        lines,
+        told,
+    );
+    let run = parts::run_of(t, head, used, elapsed, waiting, runs);
+    Many {
+        answer: Taking::Taken,
+        run,
+    }
+}
