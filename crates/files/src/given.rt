@@ -1,12 +1,13 @@
 // The table that a program is given: read, or answered as refused.
 
+use lines::answer::LONGEST_ANSWER;
 use table::Table;
-use text::LONGEST;
+use text::LONGEST_TEXT;
 use text::Reading;
 ghost use Rattle.files.specs.Answers.{Handed};
 
 // One byte more than a text may have, so that a longer file shows.
-const ROOM: usize = LONGEST + 1;
+const ROOM: usize = LONGEST_TEXT + 1;
 
 // Whether there is a table, and it.
 pub struct Given {
@@ -16,7 +17,7 @@ pub struct Given {
 
 // "A refused table prints only" its one line.
 fn say_refused(a: Reading) {
-    let mut line = [0u8; 64];
+    let mut line = [0u8; LONGEST_ANSWER];
     let n = lines::answer::put_refused(a, &mut line, 0);
     crate::write_first(&line, n);
 }

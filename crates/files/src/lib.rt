@@ -1,5 +1,6 @@
-// Files as the programs take them: opened by argument, read whole or in pieces, and what is said where that fails. What the system answers
-// no contract can say; what follows whatever it is stands in specs/Answers.antt.
+// Files as the programs take them: opened by argument, read whole or in pieces, and what is said
+// where that fails. What the system answers no contract can say; what follows whatever it is stands
+// in specs/Answers.antt.
 
 pub mod given;
 
@@ -15,7 +16,8 @@ pub struct Taken {
     pub whole: bool,
 }
 
-// Whether the program was called with this many words, its name among them; if not, how to call it is said.
+// Whether the program was called with this many words, its name among them; if not, how to call it
+// is said.
 pub fn called_with(words: usize, usage: &[u8]) -> bool
     ensures { λ r. ⌜ Called words r ⌝ }
 {
@@ -28,7 +30,8 @@ pub fn called_with(words: usize, usage: &[u8]) -> bool
     false
 }
 
-// The file that argument i names, `-` being standard input. -1 where it cannot be opened, which is said.
+// The file that argument i names, `-` being standard input. -1 where it cannot be opened, which is
+// said.
 pub fn open_argument(i: usize) -> i32
     ensures { λ r. ⌜ Descriptor r ⌝ }
 {
@@ -51,8 +54,9 @@ pub fn open_argument(i: usize) -> i32
     fd
 }
 
-// What of a file fits the lent bytes. Where the file cannot be read, that is said, and it is not whole.
-pub fn take_whole(fd: i32, buf: &mut [u8]) -> Taken
+// What of a file fits the lent bytes. Where the file cannot be read, that is said, and it is not
+// whole.
+fn take_whole(fd: i32, buf: &mut [u8]) -> Taken
     ensures { λ r. ⌜ Counts (r .len) (now (buf .exit)) ⌝ }
 {
     let n = io::read_full(fd, buf);
@@ -73,7 +77,8 @@ pub fn take_whole(fd: i32, buf: &mut [u8]) -> Taken
     }
 }
 
-// The next piece of a file: no bytes at its end. Where it cannot be read, that is said, and it is not whole.
+// The next piece of a file: no bytes at its end. Where it cannot be read, that is said, and it is
+// not whole.
 pub fn take_piece(fd: i32, buf: &mut [u8]) -> Taken
     ensures { λ r. ⌜ Counts (r .len) (now (buf .exit)) ⌝ }
 {
@@ -89,7 +94,7 @@ pub fn take_piece(fd: i32, buf: &mut [u8]) -> Taken
 }
 
 // Whether all of the text was written to standard output; if not, that is said.
-pub fn write_out(text: &[u8]) -> bool
+fn write_out(text: &[u8]) -> bool
     ensures { λ r. ⌜ Out (now (text .entry)) r ⌝ }
 {
     if text.len() == 0 {

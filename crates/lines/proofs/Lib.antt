@@ -1,6 +1,6 @@
-pub mod Serve
-pub mod Event
-pub mod Holding
-pub mod Answering
-pub mod Short
-pub mod Buffer
+pub mod EventLine
+pub mod Held
+pub mod Cutting
+pub mod Values
+pub mod Inner
+pub mod Print

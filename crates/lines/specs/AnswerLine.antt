@@ -1,10 +1,10 @@
--- 01, One night in full: the answers as they are printed. "tick, mode, what, server, task, how the earlier job left, its task,
--- discarded. An `idle` tick shows `-` for server and task." Lines are parted by tabs, each closed by a line feed.
+-- 01, One night in full: the answers as they are printed. "tick, mode, what, server, task, how the
+-- earlier job left, its task, discarded. An `idle` tick shows `-` for server and task." Lines are
+-- parted by tabs, each closed by a line feed.
 use mathlib.Core.List.{List, [], _∷_, _++_, map}
 use Prim.Native.Nat.{ℕ}
 use Rattle.decimal.specs.Number.{digits}
-use Rattle.decimal.specs.Parts.{tab, lineFeed, join}
-use Rattle.table.specs.declared.Refusal.{Refusal}
+use Rattle.decimal.specs.Lines.{tab, lineFeed, join}
 use Rattle.table.specs.declared.Refusal.the-variants.{Malformed}
 use Rattle.table.specs.Refusals.{numberOf}
 use Rattle.text.specs.declared.Reading.{Reading}
@@ -14,11 +14,13 @@ use Rattle.run.specs.declared.Turn.the-variants.{Run as Ran, Empty, Idle}
 use Rattle.run.specs.declared.Left.{Left}
 use Rattle.run.specs.declared.Left.the-variants.{Nobody, Done, Cut}
 use Rattle.run.specs.declared.TickAnswer.{TickAnswer}
-use Rattle.run.specs.declared.Event.{Event}
 use Rattle.run.specs.declared.Event.the-variants.{Release, Tick}
-use Rattle.run.specs.declared.Answer.{Answer}
-use Rattle.run.specs.declared.Answer.the-variants.{Started, Released, Ticked, No}
-use Rattle.lines.specs.Words.{releaseLetter, tickLetter, anotherLetter, okWord, noWord, runWord, emptyWord, idleWord, doneWord, cutWord, dash, tableWord, modeWord}
+use Rattle.run.specs.declared.EventLine.{EventLine}
+use Rattle.run.specs.declared.EventLine.the-variants.{Of, Another}
+use Rattle.run.specs.declared.Told.{Told}
+use Rattle.run.specs.declared.Told.the-variants.{No, Released, Ticked}
+use Rattle.lines.specs.Words.{releaseLetter, tickLetter, anotherLetter, okWord, noWord, runWord}
+use Rattle.lines.specs.Words.{emptyWord, idleWord, doneWord, cutWord, dash, tableWord, modeWord}
 
 -- "what, server, task"
 abbrev pub turnFields : Turn → List (List ℕ)
@@ -35,26 +37,27 @@ leftFields (Cut k) = cutWord ∷ digits k ∷ []
 -- "tick, mode, what, server, task, how the earlier job left, its task, discarded"
 abbrev pub tickFields : TickAnswer → List (List ℕ)
 tickFields a =
-    digits (a .tick) ∷ modeWord (a .mode) ∷ (turnFields (a .turn) ++ (leftFields (a .left) ++ (digits (a .discarded) ∷ [])))
+    digits (a .tick .0) ∷ modeWord (a .mode) ∷ (turnFields (a .turn) ++
+    (leftFields (a .left) ++ (digits (a .discarded) ∷ [])))
 
-abbrev pub noFields : Refusal → List (List ℕ)
-noFields why = noWord ∷ digits (numberOf why) ∷ []
+-- what became of the line: "the paper's number" for no
+abbrev pub noFields : ℕ → List (List ℕ)
+noFields number = noWord ∷ digits number ∷ []
 
--- what became of the event
-unfoldable pub outcome : Answer → List (List ℕ)
-outcome Started = okWord ∷ []
+unfoldable pub outcome : Told → List (List ℕ)
 outcome (Released k) = okWord ∷ []
 outcome (Ticked a) = tickFields a
-outcome (No why) = noFields why
+outcome (No number) = noFields number
 
 -- a release's answer repeats the task, a tick's does not repeat the mark
-unfoldable pub answerFields : Event → Answer → List (List ℕ)
-answerFields (Release k) a = releaseLetter ∷ digits k ∷ outcome a
-answerFields (Tick mark) a = tickLetter ∷ outcome a
+unfoldable pub answerFields : EventLine → Told → List (List ℕ)
+answerFields (Of (Release k)) x = releaseLetter ∷ digits k ∷ outcome x
+answerFields (Of (Tick mark)) x = tickLetter ∷ outcome x
+answerFields Another x = anotherLetter ∷ outcome x
 
 -- "another line .. answers `?⇥no⇥1`"
-unfoldable pub anotherFields : List (List ℕ)
-anotherFields = anotherLetter ∷ noFields Malformed
+abbrev pub anotherFields : List (List ℕ)
+anotherFields = answerFields Another (No (numberOf Malformed))
 
 -- "A refused table prints only `table⇥no⇥number⇥line`, for 5 with the second line after it."
 unfoldable pub refusedFields : Reading → List (List ℕ)
@@ -63,11 +66,6 @@ refusedFields a = tableWord ∷ noWord ∷ digits (readingNumber a) ∷ map digi
 abbrev pub printed : List (List ℕ) → List ℕ
 printed = join tab
 
--- fields that stand after others: a tab before each
-unfoldable pub tabbed : List (List ℕ) → List ℕ
-tabbed [] = []
-tabbed (f ∷ fs) = tab ∷ (f ++ tabbed fs)
-
--- the same, and the line is closed
-abbrev pub closing : List (List ℕ) → List ℕ
-closing fs = tabbed fs ++ (lineFeed ∷ [])
+-- a line of text closed by a line feed
+abbrev pub closedLine : List (List ℕ) → List ℕ
+closedLine fs = printed fs ++ (lineFeed ∷ [])

@@ -1,17 +1,16 @@
--- 01, One night in full: "Event lines are `R⇥task` and `T⇥mark`, numbers as in tables; another line, a mark above 1 included, or an
--- unclosed last one, answers `?⇥no⇥1`."
-use mathlib.Core.Bool.{Bool, true, false}
+-- 01, One night in full: "Event lines are `R⇥task` and `T⇥mark`, numbers as in tables; another
+-- line, a mark above 1 included, or an unclosed last one, answers `?⇥no⇥1`."
+use mathlib.Core.Bool.{Bool}
 use mathlib.Core.List.{List, [], _∷_}
 use Prim.Native.Nat.{ℕ}
 use lib.Dec.{leb, eqb}
 use lib.ListN.{length, getD}
 use Rattle.laws.specs.Choice.{if_then_else_, every}
 use Rattle.decimal.specs.Number.{isNumber, worth}
-use Rattle.decimal.specs.Parts.{tab, lineFeed, split, same}
-use Rattle.run.specs.declared.Event.{Event}
+use Rattle.decimal.specs.Lines.{tab, lineFeed, split, same}
 use Rattle.run.specs.declared.Event.the-variants.{Release, Tick}
-use Rattle.lines.specs.declared.EventLine.{EventLine}
-use Rattle.lines.specs.declared.EventLine.the-variants.{Of, Another}
+use Rattle.run.specs.declared.EventLine.{EventLine}
+use Rattle.run.specs.declared.EventLine.the-variants.{Of, Another}
 use Rattle.lines.specs.Words.{releaseLetter, tickLetter}
 
 -- `R⇥task`
@@ -37,7 +36,8 @@ eventSaid fs =
 unfoldable pub eventLine : List ℕ → EventLine
 eventLine l = eventSaid (split tab l)
 
--- The lines of an event file, from the parts that its line feeds leave: the last part is nothing, or an unclosed line.
+-- The lines of an event file, from the parts that its line feeds leave: the last part is nothing,
+-- or an unclosed line.
 unfoldable pub closedLines : List (List ℕ) → List EventLine
 closedLines [] = []
 closedLines ([] ∷ []) = []

@@ -1,26 +1,24 @@
 -- 01, One night in full: a table file and an event file, and the whole output.
 use mathlib.Core.List.{List, [], _∷_}
 use Prim.Native.Nat.{ℕ}
-use Rattle.decimal.specs.Parts.{closed}
+use Rattle.decimal.specs.Lines.{closed}
 use Rattle.text.specs.declared.Reading.{Reading}
 use Rattle.text.specs.declared.Reading.the-variants.{Taken, Refused, Equal}
-use Rattle.text.specs.declared.Read.{Read}
 use Rattle.text.specs.Read.{read, shown}
 use Rattle.run.specs.declared.Run.{Run}
 use Rattle.run.specs.Release.{freshRun}
-use Rattle.run.specs.Events.{eventOf}
-use Rattle.lines.specs.declared.EventLine.{EventLine}
-use Rattle.lines.specs.declared.EventLine.the-variants.{Of, Another}
+use Rattle.run.specs.Many.{toldTo, afterLine}
+use Rattle.run.specs.declared.EventLine.{EventLine}
 use Rattle.lines.specs.EventLine.{eventLines}
-use Rattle.lines.specs.AnswerLine.{answerFields, anotherFields, refusedFields, printed}
+use Rattle.lines.specs.AnswerLine.{answerFields, refusedFields, printed}
 
--- the answers to some event lines, a line each; another line changes nothing
+-- the answers to some event lines, a line each
 unfoldable pub answerLines : Run → List EventLine → List (List ℕ)
 answerLines r [] = []
-answerLines r (Of e ∷ ls) = printed (answerFields e (eventOf r e .answer)) ∷ answerLines (eventOf r e .run) ls
-answerLines r (Another ∷ ls) = printed anotherFields ∷ answerLines r ls
+answerLines r (l ∷ ls) = printed (answerFields l (toldTo r l)) ∷ answerLines (afterLine r l) ls
 
--- "Start afresh with an accepted table and send any events"; "A refused table prints only" its one line.
+-- "Start afresh with an accepted table and send any events"; "A refused table prints only" its one
+-- line.
 unfoldable pub nightLines : Reading → Run → List EventLine → List (List ℕ)
 nightLines Taken r ls = answerLines r ls
 nightLines (Refused why line) r ls = printed (refusedFields (Refused why line)) ∷ []

@@ -1,11 +1,11 @@
 // rewrite TABLE: the table as the writer writes it; a refused table as its one line.
 
 use table::Table;
-use text::LONGEST;
+use text::LONGEST_TEXT;
 use text::Writing;
 
 fn write_text(t: Table) {
-    let mut room = [0u8; LONGEST];
+    let mut room = [0u8; LONGEST_TEXT];
     let w = writer::write_table(t, &mut room);
     match w {
         Writing::Written(n) => {

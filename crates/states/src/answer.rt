@@ -8,9 +8,11 @@ use decimal::put::put_byte;
 use decimal::put::put_number;
 use run::Answer;
 use run::Answered;
+use run::Begun;
 use run::Last;
 use run::Left;
 use run::Run;
+use run::Starting;
 use run::State;
 use run::TickAnswer;
 use run::Turn;
@@ -24,7 +26,7 @@ use verdict::Verdict;
 ghost use Prim.Native.Nat.{_≤_};
 
 // No answer is longer: 98 lines, or the text of a table.
-const LONGEST: usize = 16384;
+const LONGEST_SAID: usize = 16384;
 // What a room holds before it is lent.
 const BEFORE: u8 = b'~';
 
@@ -39,7 +41,7 @@ fn put_line(word: &[u8], numbers: &[u64], room: &mut [u8], at: usize) -> usize {
 }
 
 fn say_line(word: &[u8], numbers: &[u64]) -> bool {
-    let mut room = [0u8; LONGEST];
+    let mut room = [0u8; LONGEST_SAID];
     let n = put_line(word, numbers, &mut room, 0);
     files::write_first(&room, n)
 }
@@ -74,7 +76,7 @@ fn write_in(t: Table, size: usize, room: &mut [u8]) -> Writing {
 
 // "A writer changes nothing beyond the text", and a refused one nothing at all: what no answer of the format could say is said too.
 fn say_written(t: Table, size: usize) -> bool {
-    let mut room = [BEFORE; LONGEST];
+    let mut room = [BEFORE; LONGEST_SAID];
     match write_in(t, size, &mut room) {
         Writing::Written(many) => {
             if !is_kept(&room, many) {
@@ -113,7 +115,7 @@ fn put_head(s: State, room: &mut [u8], at: usize) -> usize {
     let m = s.mode;
     let mode = mode_number(m);
     let last = s.last;
-    let ticks = s.ticks as u64;
+    let ticks = s.ticks.0 as u64;
     let accepted = s.accepted as u64;
     match last {
         Last::NoJob => put_line(b"state", &[mode, ticks, accepted, 0, 0], room, at),
@@ -149,7 +151,7 @@ fn put_queues(s: State, n: usize, room: &mut [u8], at: usize) -> usize {
 fn say_state(word: &[u8], numbers: &[u64], r: Run) -> bool {
     let t = r.table;
     let s = r.state;
-    let mut room = [0u8; LONGEST];
+    let mut room = [0u8; LONGEST_SAID];
     let k = put_line(word, numbers, &mut room, 0);
     let k = put_head(s, &mut room, k);
     let k = put_budgets(s, t.nservers, &mut room, k);
@@ -205,7 +207,7 @@ fn say_tick(a: TickAnswer, r: Run) -> bool {
     say_state(
         b"tick",
         &[
-            a.tick as u64,
+            a.tick.0 as u64,
             mode,
             what_of(turn),
             server_of(turn),
@@ -218,11 +220,19 @@ fn say_tick(a: TickAnswer, r: Run) -> bool {
     )
 }
 
+fn say_begun(b: Begun) -> bool {
+    let answer = b.answer;
+    let r = b.run;
+    match answer {
+        Starting::Started => say_state(b"fresh", &[], r),
+        Starting::Refused(why) => say_no(why),
+    }
+}
+
 fn say_answered(a: Answered) -> bool {
     let answer = a.answer;
     let r = a.run;
     match answer {
-        Answer::Started => say_state(b"fresh", &[], r),
         Answer::Released(_) => say_state(b"release", &[], r),
         Answer::Ticked(t) => say_tick(t, r),
         Answer::No(why) => say_no(why),
@@ -235,7 +245,7 @@ pub(crate) fn say_answer(b: Block, asked: Operation) -> bool {
     let s = b.state;
     let r = Run { table: t, state: s };
     match asked {
-        Operation::Fresh => say_answered(scheduler::start(t)),
+        Operation::Fresh => say_begun(scheduler::start(t)),
         Operation::Release(task) => say_answered(scheduler::release(r, task)),
         Operation::Tick(mark) => say_answered(scheduler::tick(r, mark)),
         Operation::Verdict(row, m) => say_verdict(t, row, m),

@@ -177,7 +177,7 @@ fn no_state() -> State {
         waiting: [0; TASKS],
         runs: [0; TASKS],
         last: Last::NoJob,
-        ticks: 0,
+        ticks: Ticks(0),
         accepted: 0,
     }
 }
@@ -287,7 +287,7 @@ fn add_state(b: Block, line: &[u8]) -> Block {
     let state = State {
         mode: mode_of(value(line, 1)),
         last: last_of(value(line, 4), value(line, 5)),
-        ticks: narrow(value(line, 2)),
+        ticks: Ticks(narrow(value(line, 2))),
         accepted: narrow(value(line, 3)),
         ..s
     };

@@ -9,7 +9,7 @@ use crate::block::Block;
 use libc::STDERR_FILENO;
 
 // A line of the format has at most some 120 bytes.
-const LONGEST: usize = 256;
+const LONGEST_LINE: usize = 256;
 
 // What was taken of the file so far: the block that is open, and how many bytes of the line that is not closed yet are held.
 struct Feed {
@@ -115,7 +115,7 @@ fn main() {
     if fd < 0 {
         return;
     }
-    let mut held = [0u8; LONGEST];
+    let mut held = [0u8; LONGEST_LINE];
     let f = take_all(fd, &mut held);
     let b = f.block;
     if b.broken {

@@ -1,4 +1,5 @@
--- `files::called_with` meets its contract: the count that the system told is compared. Assumes nothing.
+-- `files::called_with` meets its contract: the count that the system told is compared. Assumes
+-- nothing.
 use mathlib.Core.Path.{sym}
 use borrow.Author.Needs.{needs}
 use borrow.Author.Tests.{eq-eqb, ne-eqb}
@@ -38,12 +39,5 @@ returns-2 c =
 pub called-with-spec : {M : Type 1} → statement M
 called-with-spec =
     tie.close
-    (tie.spec
-    arg-count-requires
-    returns
-    slice-aggregate-write-all
-    write-all-requires
-    write-all-requires-2
-    slice-aggregate-write-all-2
-    write-all-requires-3
-    returns-2)
+    (tie.spec arg-count-requires returns slice-aggregate-write-all write-all-requires
+    write-all-requires-2 slice-aggregate-write-all-2 write-all-requires-3 returns-2)

@@ -1,4 +1,5 @@
--- `files::open_argument` meets its contract: a descriptor below 0 is answered as -1. Assumes nothing.
+-- `files::open_argument` meets its contract: a descriptor below 0 is answered as -1. Assumes
+-- nothing.
 use mathlib.Core.Path.{_≡_}
 use mathlib.Core.Bool.{false}
 use Prim.Native.Nat.{zero-le}
@@ -69,21 +70,7 @@ returns-4 c = not-below (toZ w32 (ofZ w32 (c .before .open-read .result))) (c .i
 pub open-argument-spec : {M : Type 1} → statement M
 open-argument-spec =
     tie.close
-    (tie.spec
-    buffer-requires
-    slice-aggregate-arg
-    arg-requires
-    errno-requires
-    slice-aggregate-fail
-    fail-requires
-    returns
-    array-read-if3
-    returns-2
-    array-share-prefix-path
-    slice-aggregate-open-read
-    open-read-requires
-    array-share-prefix-path-2
-    slice-aggregate-fail-2
-    fail-requires-2
-    returns-3
+    (tie.spec buffer-requires slice-aggregate-arg arg-requires errno-requires slice-aggregate-fail
+    fail-requires returns array-read-if3 returns-2 array-share-prefix-path slice-aggregate-open-read
+    open-read-requires array-share-prefix-path-2 slice-aggregate-fail-2 fail-requires-2 returns-3
     returns-4)

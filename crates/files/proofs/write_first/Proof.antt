@@ -1,6 +1,6 @@
--- `files::write_first` meets its contract: the part that is written ends within the room, and it has n bytes. Assumes nothing.
-use mathlib.Core.Path.{_≡_, refl, sym, _∙_}
-use Prim.Native.Nat.{_<_}
+-- `files::write_first` meets its contract: the part that is written ends within the room, and it
+-- has n bytes. Assumes nothing.
+use mathlib.Core.Path.{refl, sym, _∙_}
 use native.Mathlib.Omega.{arith}
 use lib.Seq.{length-take-le}
 use borrow.Author.Needs.{needs}

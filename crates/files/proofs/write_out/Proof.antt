@@ -1,5 +1,5 @@
--- `files::write_out` meets its contract: where it answers no, there was something to write. Assumes nothing.
-use mathlib.Core.Path.{_≡_}
+-- `files::write_out` meets its contract: where it answers no, there was something to write. Assumes
+-- nothing.
 use borrow.Author.Needs.{needs}
 use Rattle.files.proofs.write_out.Statement.{statement}
 use Rattle.files.proofs.write_out.Tie as tie

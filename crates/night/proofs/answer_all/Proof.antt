@@ -1,12 +1,8 @@
 -- `night::answer_all` is safe and ends: the turns are counted down. Assumes nothing.
 use Prim.Native.Nat.{_≤_, _-_}
-use lib.ListN.{length}
 use borrow.Author.Needs.{needs}
 use Rattle.night.proofs.answer_all.Statement.{statement}
 use Rattle.night.proofs.answer_all.Tie as tie
-use Rattle.night.proofs.answer_all.Reads as reads
-use Rattle.night.proofs.answer_all.Lts as lts
-use Rattle.night.proofs.next_piece.Reads as next-piece-reads
 
 abbrev Inv-loop : tie.InvT-loop
 Inv-loop fd night₀ turns₀ night turns = 0 ≤ turns
@@ -38,13 +34,5 @@ returns-2 c = search needs
 pub answer-all-spec : {M : Type 1} → statement M
 answer-all-spec =
     tie.close
-    (tie.spec
-    Inv-loop
-    μ-loop
-    loop-holds
-    next-piece-requires
-    sub-turns
-    loop-less
-    loop-again
-    returns
+    (tie.spec Inv-loop μ-loop loop-holds next-piece-requires sub-turns loop-less loop-again returns
     returns-2)

@@ -44,16 +44,5 @@ returns-2 c = search needs
 pub take-all-spec : {M : Type 1} → statement M
 take-all-spec =
     tie.close
-    (tie.spec
-    Inv-loop
-    μ-loop
-    empty-requires
-    loop-holds
-    take-some-requires
-    sub-turns
-    loop-less
-    loop-again
-    same-length
-    returns
-    same-length-2
-    returns-2)
+    (tie.spec Inv-loop μ-loop empty-requires loop-holds take-some-requires sub-turns loop-less
+    loop-again same-length returns same-length-2 returns-2)

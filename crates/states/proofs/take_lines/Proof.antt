@@ -67,22 +67,6 @@ returns-3 c = search needs
 pub take-lines-spec : {M : Type 1} → statement M
 take-lines-spec =
     tie.close
-    (tie.spec
-    Inv-loop
-    μ-loop
-    loop-holds
-    find-requires
-    sub-put-all
-    part-put-all-start
-    part-put-all-end
-    put-all-requires
-    close-line-requires
-    add-at
-    loop-less
-    loop-again
-    same-length
-    returns
-    same-length-2
-    returns-2
-    same-length-3
-    returns-3)
+    (tie.spec Inv-loop μ-loop loop-holds find-requires sub-put-all part-put-all-start
+    part-put-all-end put-all-requires close-line-requires add-at loop-less loop-again same-length
+    returns same-length-2 returns-2 same-length-3 returns-3)

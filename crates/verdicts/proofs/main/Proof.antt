@@ -3,12 +3,6 @@ use Prim.Native.Nat.{_≤_, _-_}
 use borrow.Author.Needs.{needs}
 use Rattle.verdicts.proofs.main.Statement.{statement}
 use Rattle.verdicts.proofs.main.Tie as tie
-use Rattle.verdicts.proofs.main.Reads as reads
-use Rattle.verdicts.proofs.main.Lts as lts
-use Rattle.files.proofs.called_with.Reads as called-with-reads
-use Rattle.files.proofs.given.take_table.Reads as take-table-reads
-use Rattle.files.proofs.open_argument.Reads as open-argument-reads
-use Rattle.verdicts.proofs.say_row.Reads as say-row-reads
 
 abbrev Inv-loop : tie.InvT-loop
 Inv-loop fd t row₀ row-end row = row ≤ row-end
@@ -58,19 +52,6 @@ returns-4 c = search needs
 pub main-spec : {M : Type 1} → statement M
 main-spec =
     tie.close
-    (tie.spec
-    Inv-loop
-    μ-loop
-    slice-aggregate-called-with
-    called-with-requires
-    returns
-    open-argument-requires
-    returns-2
-    take-table-requires
-    loop-holds
-    say-row-requires
-    add-row
-    loop-less
-    loop-again
-    returns-3
-    returns-4)
+    (tie.spec Inv-loop μ-loop slice-aggregate-called-with called-with-requires returns
+    open-argument-requires returns-2 take-table-requires loop-holds say-row-requires add-row
+    loop-less loop-again returns-3 returns-4)

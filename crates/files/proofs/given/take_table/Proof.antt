@@ -1,4 +1,5 @@
--- `files::given::take_table` meets its contract: what was read goes to the reader, and its answer decides. Assumes nothing.
+-- `files::given::take_table` meets its contract: what was read goes to the reader, and its answer
+-- decides. Assumes nothing.
 use mathlib.Core.Path.{_≡_, ap, sym, _∙_}
 use mathlib.Core.Bool.{true, false}
 use mathlib.Core.List.{List}
@@ -63,14 +64,6 @@ returns-3 c =
 pub take-table-spec : {M : Type 1} → statement M
 take-table-spec =
     tie.close
-    (tie.spec
-    slice-aggregate-take-whole
-    take-whole-requires
-    array-share-prefix-buf
-    slice-aggregate-read-table
-    read-table-requires
-    returns
-    enum-told
-    returns-2
-    say-refused-requires
+    (tie.spec slice-aggregate-take-whole take-whole-requires array-share-prefix-buf
+    slice-aggregate-read-table read-table-requires returns enum-told returns-2 say-refused-requires
     returns-3)

@@ -1,8 +1,8 @@
 -- `lines::answer::put_another` meets its contract: its bytes are the line. Assumes nothing.
 use Rattle.lines.specs.Words.{anotherLetter, noWord}
-use Rattle.lines.specs.AnswerLine.{anotherFields}
+use Rattle.lines.specs.AnswerLine.{outcome, answerFields}
 use Rattle.decimal.specs.Number.{digits, digitsIn}
-use Rattle.decimal.specs.Parts.{join}
+use Rattle.decimal.specs.Lines.{join}
 use borrow.Author.Needs.{needs}
 use Rattle.lines.proofs.answer.put_another.Statement.{statement}
 use Rattle.lines.proofs.answer.put_another.Tie as tie
@@ -17,7 +17,7 @@ same-length : tie.Need-same-length
 same-length c = search needs
 
 returns : tie.Need-returns
-unfolding anotherFields anotherLetter noWord digits digitsIn join
+unfolding outcome answerFields anotherLetter noWord digits digitsIn join
 returns c = c .before .before .put-all .ensures
 
 pub put-another-spec : {M : Type 1} → statement M

@@ -1,5 +1,5 @@
 -- `lines::answer::put_last` meets its contract: the field, then the line feed. Assumes nothing.
-use Rattle.decimal.proofs.Room.{put-more}
+use Rattle.lines.proofs.Inner.{exactly, then}
 use borrow.Author.Needs.{needs}
 use Rattle.lines.proofs.answer.put_last.Statement.{statement}
 use Rattle.lines.proofs.answer.put_last.Tie as tie
@@ -17,7 +17,7 @@ returns : tie.Need-returns
 returns c =
     let p1 = c .before .before in
     let p2 = p1 .before .before .before .before in
-    put-more _ _ (p2 .put-field .ensures) (p1 .put-byte .ensures)
+    then _ _ (p2 .put-field .ensures) (exactly _ (p1 .put-byte .ensures))
 
 pub put-last-spec : {M : Type 1} → statement M
 put-last-spec = tie.close (tie.spec put-field-requires put-byte-requires same-length returns)

@@ -2,8 +2,9 @@
 use mathlib.Core.List.{[], _∷_}
 use Rattle.decimal.specs.Number.{digits}
 use Rattle.lines.specs.Words.{dash, doneWord, cutWord}
-use Rattle.lines.specs.AnswerLine.{tabbed}
-use Rattle.lines.proofs.Answering.{fields-then}
+use Rattle.lines.specs.Inner.{tabbed}
+use Rattle.lines.proofs.Inner.{exactly, at-most, fields-then}
+use native.Mathlib.Omega.{arith}
 use borrow.Author.Needs.{needs}
 use Rattle.lines.proofs.answer.put_left.Statement.{statement}
 use Rattle.lines.proofs.answer.put_left.Tie as tie
@@ -46,7 +47,8 @@ same-length c = search needs
 
 returns : tie.Need-returns
 unfolding tabbed dash
-returns c = rw (c .before .before .before .before .before .enum-told .given .1) (c .before .before .put-all .ensures)
+returns c = rw (c .before .before .before .before .before .enum-told .given .1)
+    (at-most (exactly _ (c .before .before .put-all .ensures)) (omega arith))
 
 same-length-2 : tie.Need-same-length-2
 same-length-2 c = search needs
@@ -58,7 +60,8 @@ returns-2 c =
     let p2 = p1 .before .before .before .before in
     let p3 = p2 .before .before .before .before in
     rw (p3 .left .given .1)
-    (fields-then (doneWord ∷ []) (digits (p3 .left .given .0 .0) ∷ []) (p2 .put-all2 .ensures) (p1 .put-field .ensures))
+    (fields-then (doneWord ∷ []) (digits (p3 .left .given .0 .0) ∷ []) (exactly _ (p2 .put-all2 .ensures))
+    (p1 .put-field .ensures))
 
 same-length-3 : tie.Need-same-length-3
 same-length-3 c = search needs
@@ -70,26 +73,13 @@ returns-3 c =
     let p2 = p1 .before .before .before .before in
     let p3 = p2 .before .before .before .before in
     rw (p3 .left2 .given .1)
-    (fields-then (cutWord ∷ []) (digits (p3 .left2 .given .0 .0) ∷ []) (p2 .put-all3 .ensures) (p1 .put-field2 .ensures))
+    (at-most (fields-then (cutWord ∷ []) (digits (p3 .left2 .given .0 .0) ∷ [])
+    (exactly _ (p2 .put-all3 .ensures)) (p1 .put-field2 .ensures)) (omega arith))
 
 pub put-left-spec : {M : Type 1} → statement M
 put-left-spec =
     tie.close
-    (tie.spec
-    enum-told
-    slice-aggregate-put-all
-    put-all-requires
-    enum-known-left
-    slice-aggregate-put-all-2
-    put-all-requires-2
-    put-field-requires
-    enum-known-left-2
-    slice-aggregate-put-all-3
-    put-all-requires-3
-    put-field-requires-2
-    same-length
-    returns
-    same-length-2
-    returns-2
-    same-length-3
-    returns-3)
+    (tie.spec enum-told slice-aggregate-put-all put-all-requires enum-known-left
+    slice-aggregate-put-all-2 put-all-requires-2 put-field-requires enum-known-left-2
+    slice-aggregate-put-all-3 put-all-requires-3 put-field-requires-2 same-length returns
+    same-length-2 returns-2 same-length-3 returns-3)

@@ -1,7 +1,10 @@
--- `lines::answer::put_mode` meets its contract: the bytes of each mode are its word. Assumes nothing.
+-- `lines::answer::put_mode` meets its contract: the bytes of each mode are its word. Assumes
+-- nothing.
 use Rattle.lines.specs.Words.{modeWord}
-use Rattle.lines.specs.AnswerLine.{tabbed}
+use Rattle.lines.specs.Inner.{tabbed}
+use native.Mathlib.Omega.{arith}
 use borrow.Author.Needs.{needs}
+use Rattle.lines.proofs.Inner.{exactly, at-most}
 use Rattle.lines.proofs.answer.put_mode.Statement.{statement}
 use Rattle.lines.proofs.answer.put_mode.Tie as tie
 
@@ -37,38 +40,28 @@ same-length c = search needs
 
 returns : tie.Need-returns
 unfolding modeWord tabbed
-returns c = rw (c .before .before .before .before .before .enum-told .given .1) (c .before .before .put-all .ensures)
+returns c = rw (c .before .before .before .before .before .enum-told .given .1)
+    (at-most (exactly _ (c .before .before .put-all .ensures)) (omega arith))
 
 same-length-2 : tie.Need-same-length-2
 same-length-2 c = search needs
 
 returns-2 : tie.Need-returns-2
 unfolding modeWord tabbed
-returns-2 c = rw (c .before .before .before .before .before .enum-told2 .given .1) (c .before .before .put-all2 .ensures)
+returns-2 c = rw (c .before .before .before .before .before .enum-told2 .given .1)
+    (at-most (exactly _ (c .before .before .put-all2 .ensures)) (omega arith))
 
 same-length-3 : tie.Need-same-length-3
 same-length-3 c = search needs
 
 returns-3 : tie.Need-returns-3
 unfolding modeWord tabbed
-returns-3 c = rw (c .before .before .before .before .before .enum-told3 .given .1) (c .before .before .put-all3 .ensures)
+returns-3 c = rw (c .before .before .before .before .before .enum-told3 .given .1)
+    (at-most (exactly _ (c .before .before .put-all3 .ensures)) (omega arith))
 
 pub put-mode-spec : {M : Type 1} → statement M
 put-mode-spec =
     tie.close
-    (tie.spec
-    enum-told
-    slice-aggregate-put-all
-    put-all-requires
-    enum-told-2
-    slice-aggregate-put-all-2
-    put-all-requires-2
-    enum-told-3
-    slice-aggregate-put-all-3
-    put-all-requires-3
-    same-length
-    returns
-    same-length-2
-    returns-2
-    same-length-3
-    returns-3)
+    (tie.spec enum-told slice-aggregate-put-all put-all-requires enum-told-2
+    slice-aggregate-put-all-2 put-all-requires-2 enum-told-3 slice-aggregate-put-all-3
+    put-all-requires-3 same-length returns same-length-2 returns-2 same-length-3 returns-3)

@@ -1,10 +1,9 @@
 -- `lines::answer::put_no` meets its contract: the word and the number. Assumes nothing.
 use mathlib.Core.List.{[], _∷_}
-use mathlib.Core.Path.{sym}
 use Rattle.decimal.specs.Number.{digits}
 use Rattle.lines.specs.Words.{noWord}
-use Rattle.lines.specs.AnswerLine.{tabbed}
-use Rattle.lines.proofs.Answering.{closing-then}
+use Rattle.lines.specs.Inner.{tabbed}
+use Rattle.lines.proofs.Inner.{exactly, closing-then}
 use borrow.Author.Needs.{needs}
 use Rattle.lines.proofs.answer.put_no.Statement.{statement}
 use Rattle.lines.proofs.answer.put_no.Tie as tie
@@ -14,9 +13,6 @@ slice-aggregate-put-all c = search needs
 
 put-all-requires : tie.Need-put-all-requires
 put-all-requires c κs = search needs
-
-number-of-requires : tie.Need-number-of-requires
-number-of-requires c κs = search needs
 
 put-last-requires : tie.Need-put-last-requires
 put-last-requires c κs = search needs
@@ -28,18 +24,11 @@ returns : tie.Need-returns
 unfolding tabbed noWord
 returns c =
     let p1 = c .before .before in
-    let p2 = p1 .before .before in
-    let p3 = p2 .before .before .before in
-    rw (sym (p2 .number-of .ensures))
-    (closing-then (noWord ∷ []) (digits (p2 .number-of .result) ∷ []) (p3 .put-all .ensures) (p1 .put-last .ensures))
+    let p2 = p1 .before .before .before .before in
+    closing-then (noWord ∷ []) (digits (p2 .before .before .before .before .args .number) ∷ [])
+    (exactly _ (p2 .put-all .ensures)) (p1 .put-last .ensures)
 
 pub put-no-spec : {M : Type 1} → statement M
 put-no-spec =
     tie.close
-    (tie.spec
-    slice-aggregate-put-all
-    put-all-requires
-    number-of-requires
-    put-last-requires
-    same-length
-    returns)
+    (tie.spec slice-aggregate-put-all put-all-requires put-last-requires same-length returns)

@@ -2,8 +2,9 @@
 use mathlib.Core.List.{[], _∷_, _++_}
 use Rattle.decimal.specs.Number.{digits}
 use Rattle.lines.specs.Words.{tableWord, noWord}
-use Rattle.lines.specs.AnswerLine.{refusedFields, tabbed}
-use Rattle.lines.proofs.Answering.{closing-then, line-on}
+use Rattle.lines.specs.AnswerLine.{refusedFields}
+use Rattle.lines.specs.Inner.{tabbed}
+use Rattle.lines.proofs.Inner.{exactly, closing-then, line-on}
 use borrow.Author.Needs.{needs}
 use Rattle.lines.proofs.answer.put_refused.Statement.{statement}
 use Rattle.lines.proofs.answer.put_refused.Tie as tie
@@ -54,7 +55,7 @@ returns c =
     let p2 = p1 .before .before in
     let p3 = p2 .before .before .before .before in
     rw (p2 .enum-told .given .1)
-    (line-on tableWord (noWord ∷ []) (digits 0 ∷ []) (p3 .put-all .ensures) (p1 .put-last .ensures))
+    (line-on tableWord (noWord ∷ []) (digits 0 ∷ []) (exactly _ (p3 .put-all .ensures)) (p1 .put-last .ensures) .put)
 
 same-length-2 : tie.Need-same-length-2
 same-length-2 c = search needs
@@ -70,8 +71,8 @@ returns-2 c =
     let a = p4 .a .given in
     let n = digits (p3 .number-of .result) ∷ [] in
     let l = digits (a .0 .1 .0) ∷ [] in
-    rw (a .1, ← (p3 .number-of .ensures)) (line-on tableWord (noWord ∷ []) (n ++ l) (p5 .put-all .ensures)
-    (closing-then n l (p2 .put-field .ensures) (p1 .put-last2 .ensures)))
+    rw (a .1, ← (p3 .number-of .ensures)) (line-on tableWord (noWord ∷ []) (n ++ l) (exactly _ (p5 .put-all .ensures))
+    (closing-then n l (p2 .put-field .ensures) (p1 .put-last2 .ensures)) .put)
 
 same-length-3 : tie.Need-same-length-3
 same-length-3 c = search needs
@@ -88,29 +89,14 @@ returns-3 c =
     let n = digits 5 ∷ [] in
     let i = digits (a .0 .0) ∷ [] in
     let j = digits (a .0 .1 .0) ∷ [] in
-    rw (a .1) (line-on tableWord (noWord ∷ []) (n ++ (i ++ j)) (p5 .put-all .ensures)
+    rw (a .1) (line-on tableWord (noWord ∷ []) (n ++ (i ++ j)) (exactly _ (p5 .put-all .ensures))
     (closing-then n (i ++ j) (p3 .put-field2 .ensures)
-    (closing-then i j (p2 .put-field3 .ensures) (p1 .put-last3 .ensures))))
+    (closing-then i j (p2 .put-field3 .ensures) (p1 .put-last3 .ensures))) .put)
 
 pub put-refused-spec : {M : Type 1} → statement M
 put-refused-spec =
     tie.close
-    (tie.spec
-    slice-aggregate-put-all
-    put-all-requires
-    enum-told
-    put-last-requires
-    enum-known-a
-    number-of-requires
-    put-field-requires
-    put-last-requires-2
-    enum-known-a-2
-    put-field-requires-2
-    put-field-requires-3
-    put-last-requires-3
-    same-length
-    returns
-    same-length-2
-    returns-2
-    same-length-3
-    returns-3)
+    (tie.spec slice-aggregate-put-all put-all-requires enum-told put-last-requires enum-known-a
+    number-of-requires put-field-requires put-last-requires-2 enum-known-a-2 put-field-requires-2
+    put-field-requires-3 put-last-requires-3 same-length returns same-length-2 returns-2
+    same-length-3 returns-3)

@@ -2,8 +2,9 @@
 use mathlib.Core.List.{[], _∷_}
 use Rattle.decimal.specs.Number.{digits}
 use Rattle.lines.specs.Words.{dash, runWord, emptyWord, idleWord}
-use Rattle.lines.specs.AnswerLine.{tabbed}
-use Rattle.lines.proofs.Answering.{fields-then}
+use Rattle.lines.specs.Inner.{tabbed}
+use Rattle.lines.proofs.Inner.{exactly, at-most, fields-then}
+use native.Mathlib.Omega.{arith}
 use borrow.Author.Needs.{needs}
 use Rattle.lines.proofs.answer.put_turn.Statement.{statement}
 use Rattle.lines.proofs.answer.put_turn.Tie as tie
@@ -62,7 +63,7 @@ returns c =
     let p4 = p3 .before .before .before .before in
     let t = p4 .turn .given in
     rw (t .1)
-    (fields-then (runWord ∷ []) (digits (t .0 .0) ∷ digits (t .0 .1 .0) ∷ []) (p3 .put-all .ensures)
+    (fields-then (runWord ∷ []) (digits (t .0 .0) ∷ digits (t .0 .1 .0) ∷ []) (exactly _ (p3 .put-all .ensures))
     (fields-then (digits (t .0 .0) ∷ []) (digits (t .0 .1 .0) ∷ []) (p2 .put-field .ensures) (p1 .put-field2 .ensures)))
 
 same-length-2 : tie.Need-same-length-2
@@ -77,37 +78,23 @@ returns-2 c =
     let p4 = p3 .before .before .before .before in
     let t = p4 .turn2 .given in
     rw (t .1)
-    (fields-then (emptyWord ∷ []) (digits (t .0 .0) ∷ dash ∷ []) (p3 .put-all2 .ensures)
-    (fields-then (digits (t .0 .0) ∷ []) (dash ∷ []) (p2 .put-field3 .ensures) (p1 .put-all3 .ensures)))
+    (at-most (fields-then (emptyWord ∷ []) (digits (t .0 .0) ∷ dash ∷ []) (exactly _ (p3 .put-all2 .ensures))
+    (fields-then (digits (t .0 .0) ∷ []) (dash ∷ []) (p2 .put-field3 .ensures)
+    (exactly _ (p1 .put-all3 .ensures)))) (omega arith))
 
 same-length-3 : tie.Need-same-length-3
 same-length-3 c = search needs
 
 returns-3 : tie.Need-returns-3
 unfolding tabbed idleWord dash
-returns-3 c = rw (c .before .before .before .before .before .enum-told .given .1) (c .before .before .put-all4 .ensures)
+returns-3 c = rw (c .before .before .before .before .before .enum-told .given .1)
+    (at-most (exactly _ (c .before .before .put-all4 .ensures)) (omega arith))
 
 pub put-turn-spec : {M : Type 1} → statement M
 put-turn-spec =
     tie.close
-    (tie.spec
-    enum-known-turn
-    slice-aggregate-put-all
-    put-all-requires
-    put-field-requires
-    put-field-requires-2
-    enum-known-turn-2
-    slice-aggregate-put-all-2
-    put-all-requires-2
-    put-field-requires-3
-    slice-aggregate-put-all-3
-    put-all-requires-3
-    enum-told
-    slice-aggregate-put-all-4
-    put-all-requires-4
-    same-length
-    returns
-    same-length-2
-    returns-2
-    same-length-3
-    returns-3)
+    (tie.spec enum-known-turn slice-aggregate-put-all put-all-requires put-field-requires
+    put-field-requires-2 enum-known-turn-2 slice-aggregate-put-all-2 put-all-requires-2
+    put-field-requires-3 slice-aggregate-put-all-3 put-all-requires-3 enum-told
+    slice-aggregate-put-all-4 put-all-requires-4 same-length returns same-length-2 returns-2
+    same-length-3 returns-3)

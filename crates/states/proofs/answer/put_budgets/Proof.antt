@@ -51,18 +51,6 @@ returns c = search needs
 pub put-budgets-spec : {M : Type 1} → statement M
 put-budgets-spec =
     tie.close
-    (tie.spec
-    Inv-loop
-    μ-loop
-    shown-requires
-    loop-holds
-    mul-put-budget
-    element-copy-out-put-budget
-    mul-put-budget-2
-    element-copy-out-put-budget-2
-    put-budget-requires
-    add-i
-    loop-less
-    loop-again
-    same-length
-    returns)
+    (tie.spec Inv-loop μ-loop shown-requires loop-holds mul-put-budget element-copy-out-put-budget
+    mul-put-budget-2 element-copy-out-put-budget-2 put-budget-requires add-i loop-less loop-again
+    same-length returns)

@@ -51,18 +51,6 @@ returns c = search needs
 pub put-line-spec : {M : Type 1} → statement M
 put-line-spec =
     tie.close
-    (tie.spec
-    Inv-loop
-    μ-loop
-    put-all-requires
-    loop-holds
-    put-byte-requires
-    mul-put-number
-    shared-slice-read-put-number
-    put-number-requires
-    add-i
-    loop-less
-    loop-again
-    put-byte-requires-2
-    same-length
-    returns)
+    (tie.spec Inv-loop μ-loop put-all-requires loop-holds put-byte-requires mul-put-number
+    shared-slice-read-put-number put-number-requires add-i loop-less loop-again put-byte-requires-2
+    same-length returns)

@@ -48,17 +48,5 @@ returns c = search needs
 pub put-queues-spec : {M : Type 1} → statement M
 put-queues-spec =
     tie.close
-    (tie.spec
-    Inv-loop
-    μ-loop
-    shown-requires
-    loop-holds
-    element-copy-out-put-queue
-    mul-put-queue
-    element-copy-out-put-queue-2
-    put-queue-requires
-    add-i
-    loop-less
-    loop-again
-    same-length
-    returns)
+    (tie.spec Inv-loop μ-loop shown-requires loop-holds element-copy-out-put-queue mul-put-queue
+    element-copy-out-put-queue-2 put-queue-requires add-i loop-less loop-again same-length returns)

@@ -60,21 +60,6 @@ returns-4 c = search needs
 pub is-line-spec : {M : Type 1} → statement M
 is-line-spec =
     tie.close
-    (tie.spec
-    Inv-loop
-    μ-loop
-    word-in-requires
-    returns
-    fields-requires
-    add-if2
-    returns-2
-    loop-holds
-    mul-if3
-    shared-slice-read-if3
-    add-value
-    value-requires
-    returns-3
-    add-k
-    loop-less
-    loop-again
+    (tie.spec Inv-loop μ-loop word-in-requires returns fields-requires add-if2 returns-2 loop-holds
+    mul-if3 shared-slice-read-if3 add-value value-requires returns-3 add-k loop-less loop-again
     returns-4)

@@ -1,0 +1,3 @@
+pub mod Values
+pub mod Inner
+pub mod Buffer

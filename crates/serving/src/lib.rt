@@ -1,0 +1,102 @@
+// A buffer of an event file, served: bytes to event lines, event lines to what is told to them,
+// what is told to bytes. (01, One night in full.) The three rooms stand in the crates below; this
+// is their composition, and no loop over bytes is here.
+
+use lines::answer::LONGEST_ANSWER;
+use lines::answer::print_lines;
+use lines::cut::Cut;
+use lines::cut::Held;
+use lines::cut::cut_lines;
+use run::LINE_VALUES;
+use run::Run;
+use run::TOLD_VALUES;
+use run::Taking;
+use scheduler::many::answer_many;
+use table::Refusal;
+ghost use mathlib.Core.Path.{_≡_};
+ghost use lib.ListN.{length};
+ghost use Rattle.run.specs.Values.{linesSaid};
+ghost use Rattle.serving.specs.Buffer.{untaken, linesAtOnce, serveOf};
+ghost use Rattle.serving.specs.Inner.{Fit, answeredCut};
+
+// So many lines at most are taken at once.
+pub const BATCH: usize = 1024;
+
+// What is handed back for a buffer: the run and the line that is not closed yet, after it; how many
+// of its bytes were taken, and how many bytes of the lent room are their answers.
+// (specs/Buffer.antt.)
+pub struct Served {
+    pub answer: Taking,
+    pub run: Run,
+    pub held: Held,
+    pub eaten: usize,
+    pub put: usize,
+}
+
+// How many lines a room surely holds the answers of, at most a batch.
+fn lines_at_once(room: usize) -> usize
+    ensures { λ r. ⌜ r ≡ linesAtOnce room ⌝ }
+{
+    let fit = room / LONGEST_ANSWER;
+    if fit < BATCH {
+        return fit;
+    }
+    BATCH
+}
+
+// 12 and 13: nothing is taken, and what was handed in comes back.
+fn refused(why: Refusal, r: Run, h: Held) -> Served
+    ensures { λ a. ⌜ a ≡ untaken why r h ⌝ }
+{
+    Served {
+        answer: Taking::Refused(why),
+        run: r,
+        held: h,
+        eaten: 0,
+        put: 0,
+    }
+}
+
+// The lines that were cut, answered: the run is told of them, and what it tells is printed.
+fn answer_lines(r: Run, h: Held, c: Cut, lines: &[u64], room: &mut [u8]) -> Served
+    requires { ⌜ Fit (now lines) (length (now room)) ⌝ }
+    ensures { λ a.
+        ⌜ record { served = a; room = now (room .exit) }
+        ≡ answeredCut r h c (linesSaid (now (lines .entry))) (now (room .entry)) ⌝ }
+{
+    let mut told = [0u64; TOLD_VALUES * BATCH];
+    let m = answer_many(r, lines, &mut told);
+    let sound = m.answer;
+    let Taking::Taken = sound else {
+        return refused(Refusal::Unsound, r, h);
+    };
+    let cut = c.answer;
+    let Taking::Taken = cut else {
+        return refused(Refusal::RoomShort, r, h);
+    };
+    let n = lines.len() / LINE_VALUES;
+    let p = print_lines(lines, &told[..TOLD_VALUES * n], room);
+    let run = m.run;
+    let held = c.held;
+    Served {
+        answer: Taking::Taken,
+        run,
+        held,
+        eaten: c.eaten,
+        put: p.put,
+    }
+}
+
+// The answers to a buffer stand at the front of the lent room. At most a batch of lines is taken,
+// and no more than the room holds the answers of; the rest of the buffer is to be served next, from
+// what is handed back. Refused: 13, then, where a byte is there to take, 12.
+pub fn serve(r: Run, h: Held, input: &[u8], room: &mut [u8]) -> Served
+    ensures { λ a.
+        ⌜ record { served = a; room = now (room .exit) } ≡ serveOf r h (now (input .entry)) (now (room .entry)) ⌝ }
+{
+    let most = lines_at_once(room.len());
+    let mut values = [0u64; LINE_VALUES * BATCH];
+    let c = cut_lines(h, input, &mut values[..LINE_VALUES * most]);
+    let n = c.many;
+    answer_lines(r, h, c, &values[..LINE_VALUES * n], room)
+}
