@@ -1,11 +1,13 @@
-pub mod Settled
+pub mod OneOutcome
 pub mod Laws
 pub mod Table
 pub mod Decimal
 pub mod Reader
 pub mod Writer
 pub mod Verdict
+pub mod Run
 pub mod Lines
 pub mod Soundness
 pub mod Scheduler
+pub mod Serving
 pub mod Open

@@ -1,8 +1,9 @@
--- The contract of crate reader settles what it answers: two outcomes that it allows equal the same definition's value. Assumes nothing.
+-- The contract of crate reader settles what it answers: two outcomes that it allows equal the same
+-- definition's value. Assumes nothing.
 use mathlib.Core.Path.{refl, sym, _∙_}
 use Rattle.reader.proofs.read_table
-use Rattle.outcomes.specs.Settled.{Settled}
-use Rattle.outcomes.proofs.Settled.{settled}
+use Rattle.outcomes.specs.OneOutcome.{OneOutcome}
+use Rattle.outcomes.proofs.OneOutcome.{settled}
 
-pub read-table-settled : Settled read_table.Kinds.ps read_table.Kinds.r read_table.Reads.Asked read_table.Reads.Learnt
+pub read-table-settled : OneOutcome read_table.Kinds.ps read_table.Kinds.r read_table.Reads.Asked read_table.Reads.Learnt
 read-table-settled = settled (λ κs a. tt) (λ κs a x y p q. (p ∙ sym q, refl))

@@ -1,6 +1,6 @@
--- What the bounds need of an accepted table, of the rows that are there: the rows in use, of which a table of the code
--- has as many as its count says, and a shorter list fewer. A row that is not there has no capacity, so it is never
--- able. Assumes nothing.
+-- What the bounds need of an accepted table, of the rows that are there: the rows in use, of which
+-- a table of the code has as many as its count says, and a shorter list fewer. A row that is not
+-- there has no capacity, so it is never able. Assumes nothing.
 use mathlib.Core.Path.{_≡_, refl, sym, ap, _∙_}
 use mathlib.Core.Bool.{true}
 use mathlib.Core.List.{List, [], _∷_}
@@ -80,7 +80,7 @@ module _ (t : Table) (e : tableKeeps t ≡ true) where
         some = λ j m h c. go j m h c (le-or-lt (length (t .servers)) j);
       }
     where
-      nothing : (m : Mode) (s : Server) → s ≡ noServer → 0 < inMode (s .capacity) m → ⊥
+      nothing : (m : Mode) (s : Server) → s ≡ noServer → 0 < inMode (s .capacity) m .0 → ⊥
       nothing N s q c = omega (arith, ap (λ (s : Server). s .capacity .n .0) q)
       nothing D1 s q c = omega (arith, ap (λ (s : Server). s .capacity .d1 .0) q)
       nothing D2 s q c = omega (arith, ap (λ (s : Server). s .capacity .d2 .0) q)

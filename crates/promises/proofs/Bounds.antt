@@ -1,5 +1,5 @@
--- The two bounds of specs/Bounds.antt, proved. Why they hold: First.antt, Second.antt, and crate bounds beneath.
--- Assumes nothing.
+-- The two bounds of specs/Bounds.antt, proved. Why they hold: First.antt, Second.antt, and crate
+-- bounds beneath. Assumes nothing.
 use mathlib.Core.Path.{_≡_, refl, ap, _∙_}
 use mathlib.Core.Bool.{true, _||_}
 use mathlib.Core.List.{List, [], _∷_, _++_}
@@ -31,7 +31,9 @@ use Rattle.run.specs.Events.{answers}
 use Rattle.run.proofs.Taken.{release-ind, tick-ind, releaseTaken, tickedTaken}
 use Rattle.run.proofs.Shape.{Shaped, fresh-shaped}
 use Rattle.run.proofs.Sound.{state-facts}
-use Rattle.promises.specs.Bounds.{TakenTick, takenBy, takenTicks, inRow, charges, largestCapacity, elapsedFirst, normal, waitsUntil, tickAnswer, tickAnswers, answersOf, wholePeriod, FirstBound, SecondBound, FromTheAnswers, PeriodsFromTheStart}
+use Rattle.promises.specs.Bounds.{TakenTick, takenBy, takenTicks, inRow, charges, largestCapacity, elapsedFirst, normal}
+use Rattle.promises.specs.Bounds.{waitsUntil, tickAnswer, tickAnswers, answersOf, wholePeriod, FirstBound, SecondBound}
+use Rattle.promises.specs.Bounds.{FromTheAnswers, PeriodsFromTheStart}
 use Rattle.promises.proofs.Accepted.{accepted}
 use Rattle.promises.proofs.Ticks.{Follows, follows, zeros, period-begins}
 use Rattle.promises.proofs.Lists.{in-row-length, elapsed-in-row}
@@ -86,7 +88,8 @@ second-bound t es ms i s T C R e q l p k c v n u w =
     let r = response-exactly t N i (record { 0 = R }) d .0 v .1 in
     rw (p, k) (charged-whole t ms f a i R s l d r (rw p at n) (rw p at u) (rw (p, k) at w))
 
--- The prefix form, of a period that need not be whole: after x ticks of it at most R - x of the C charges are missing.
+-- The prefix form, of a period that need not be whole: after x ticks of it at most R - x of the C
+-- charges are missing.
 pub second-bound-prefix : (t : Table) (es : List Event) (ms : List TakenTick) (i s x R : ℕ) → tableKeeps t ≡ true →
     ms ≡ takenTicks (freshRun t) es → i < t .nservers → 1 ≤ capacityAt t N i →
     verdictOf t i N ≡ Response (record { 0 = R }) → x ≤ periodAt t i → s + x ≤ length ms →

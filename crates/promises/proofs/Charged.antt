@@ -1,5 +1,5 @@
--- Who is charged in a tick: an able row, unless a row above it is. Of the rows that are there no two are as high.
--- Assumes nothing.
+-- Who is charged in a tick: an able row, unless a row above it is. Of the rows that are there no
+-- two are as high. Assumes nothing.
 use mathlib.Core.Path.{_≡_, refl, _∙_}
 use mathlib.Core.Bool.{true}
 use mathlib.Core.Logic.{_⊎_, inl, inr}

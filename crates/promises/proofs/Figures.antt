@@ -1,7 +1,6 @@
 -- The marked figures hold: each computes. Assumes nothing.
 use mathlib.Core.Path.{_≡_, refl}
 use Rattle.laws.specs.Quoted.{lined}
-use Rattle.text.specs.declared.Read.{Read}
 use Rattle.text.specs.Read.{read, shown}
 use Rattle.run.specs.Example.{example}
 use Rattle.promises.specs.Example.{exampleText}

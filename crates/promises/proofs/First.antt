@@ -1,5 +1,6 @@
--- Towards the first bound: every server keeps its account in the course of the taken ticks, so crate bounds counts its
--- charges in any of them in a row; and the periods that they touch hold them. Assumes nothing.
+-- Towards the first bound: every server keeps its account in the course of the taken ticks, so
+-- crate bounds counts its charges in any of them in a row; and the periods that they touch hold
+-- them. Assumes nothing.
 use mathlib.Core.Path.{_≡_, sym, ap, _∙_}
 use mathlib.Core.List.{List}
 use mathlib.Core.Logic.{_⊎_, inl, inr}

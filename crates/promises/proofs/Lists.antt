@@ -1,22 +1,20 @@
--- The counts of some taken ticks in a row, which are made over lists, as sums over windows of time; and what a test
--- that holds of them says of each. Assumes nothing.
+-- The counts of some taken ticks in a row, which are made over lists, as sums over windows of time;
+-- and what a test that holds of them says of each. Assumes nothing.
 use mathlib.Core.Path.{_≡_, refl, sym, ap, _∙_}
 use mathlib.Core.Bool.{true, false, _&&_}
 use mathlib.Core.List.{List, [], _∷_, _++_}
 use Prim.Native.Nat.{ℕ, zero, suc, _+_, _-_, _≤_, _<_}
 use native.Mathlib.Omega.{arith}
-use lib.Dec.{ltb}
 use lib.ListN.{length, getD, take, drop, length-drop, length-take}
 use lib.Seq.{take-suc, drop-cons, getD-drop, getD-take, take-take, length-take-le}
-use borrow.Author.Tests.{ltb-true, ltb-false, ne-eqb}
-use Rattle.laws.proofs.Choice.{clash, and-left, and-right, if-ind}
+use borrow.Author.Tests.{ne-eqb}
+use Rattle.laws.proofs.Choice.{clash, and-left, and-right, larger-left, larger-right}
 use Rattle.bounds.proofs.Windows.{window, window-none, window-next}
 use Rattle.table.specs.declared.Mode.{Mode}
 use Rattle.table.specs.declared.Mode.the-variants.{N, D1, D2}
 use Rattle.table.specs.declared.Table.{Table}
 use Rattle.table.specs.Rows.{capacityAt}
 use Rattle.run.specs.State.{elapsedAt, waits}
-use Rattle.run.specs.Sound.{larger}
 use Rattle.run.specs.Answers.{charged}
 use Rattle.promises.specs.Bounds.{TakenTick, inRow, charges, largestCapacity, elapsedFirst, isNormal, normal, waitsUntil}
 use Rattle.promises.proofs.Ticks.{noTick, tickAt, course}
@@ -56,12 +54,6 @@ charges-window t i ms s (suc w) h =
     (omega (arith, charges-window t i ms s w (omega arith)))
 
 -- the largest is none of them below
-larger-left : (a b : ℕ) → a ≤ larger a b
-larger-left a b = if-ind (λ (n : ℕ). a ≤ n) (ltb a b) (λ e. omega (arith, ltb-true a b e)) (λ e. omega arith)
-
-larger-right : (a b : ℕ) → b ≤ larger a b
-larger-right a b = if-ind (λ (n : ℕ). b ≤ n) (ltb a b) (λ e. omega arith) (λ e. omega (arith, ltb-false a b e))
-
 largest-at : (t : Table) (i : ℕ) (ms : List TakenTick) (x : ℕ) → x < length ms →
     capacityAt t (tickAt ms x .answer .mode) i ≤ largestCapacity t i ms
 unfolding largestCapacity

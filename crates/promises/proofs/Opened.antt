@@ -4,27 +4,38 @@ use Rattle.laws.specs.Search.{least}
 use Rattle.laws.specs.RoundUp.{up}
 use Rattle.laws.specs.Rows.{allBelow, anyBelow, sumBelow, highest, anew}
 use Rattle.decimal.specs.Number.{areDigits, numberForm, isNumber, worthFrom, digitsIn, digits}
-use Rattle.decimal.specs.Parts.{split, join, closed, same}
+use Rattle.decimal.specs.Lines.{split, join, closed, same}
 use Rattle.table.specs.Rows.{tableOf}
-use Rattle.table.specs.Rules.{tableKeeps, keeps, serverKeeps, taskKeeps, taskFits, differ}
+use Rattle.table.specs.Rules.{tableKeeps, keeps, serverKeeps, taskKeeps, taskFault, taskStands, differ}
 use Rattle.table.specs.Pairs.{laterEqual, firstPair}
 use Rattle.text.specs.Words.{tickWord, serverWord, taskWord, eventWord, timedWord, loWord, miWord, hiWord}
-use Rattle.text.specs.Line.{tickForm, serverForm, taskForm, lineOf, readLine}
-use Rattle.text.specs.Judge.{placed, serverBounds, taskBounds, bounds, serverWhole, wholes, taskFault, fault, judge as judgeLine, grown}
+use Rattle.text.specs.Line.{tickForm, serverForm, taskForm, allFit, has, lineOf, readLine}
+use Rattle.text.specs.Standing.{placed, serverBounds, taskBounds, bounds, serverWhole, wholes, fault, standing, grown}
 use Rattle.text.specs.Read.{compared, ended, readFrom, read, shown}
 use Rattle.verdict.specs.Verdict.{verdictOf, responseAt, meets, interference}
 use Rattle.run.specs.State.{waits, someWaits}
 use Rattle.run.specs.Sound.{sound, soundState, soundServer, soundTask, soundFront, soundLast, soundCounts}
 use Rattle.run.specs.Release.{startOf, releaseOf}
-use Rattle.run.specs.Tick.{judge, step1, drops, discards, step2, step3, step4, settle, able, highestAble, highestTask, choose, advance, tickTaken, tickOf}
+use Rattle.run.specs.Tick.{judge, step1, drops, discards, step2, step3, step4, settle, able, highestAble, highestTask, choose}
+use Rattle.run.specs.Tick.{advance, tickTaken, tickOf}
 use Rattle.run.specs.Events.{after, answers}
-use Rattle.lines.specs.Words.{releaseLetter, tickLetter, anotherLetter, okWord, noWord, runWord, emptyWord, idleWord, doneWord, cutWord, dash, tableWord, modeWord}
+use Rattle.lines.specs.Words.{releaseLetter, tickLetter, anotherLetter, okWord, noWord, runWord, emptyWord, idleWord, doneWord}
+use Rattle.lines.specs.Words.{cutWord, dash, tableWord, modeWord}
 use Rattle.lines.specs.EventLine.{releaseForm, tickForm as tickLineForm, eventSaid, eventLine, closedLines, eventLines}
-use Rattle.lines.specs.AnswerLine.{outcome, answerFields, anotherFields, refusedFields}
+use Rattle.lines.specs.AnswerLine.{outcome, answerFields, refusedFields}
 use Rattle.lines.specs.Night.{answerLines, nightLines, night}
 use Rattle.run.specs.Example.{example}
 use Rattle.promises.specs.Example.{two}
 
 unfoldable pub opened : Unit {0}
-unfolding every least up allBelow anyBelow sumBelow highest anew areDigits numberForm isNumber worthFrom digitsIn digits split join closed same tableOf tableKeeps keeps serverKeeps taskKeeps taskFits differ laterEqual firstPair tickWord serverWord taskWord eventWord timedWord loWord miWord hiWord tickForm serverForm taskForm lineOf readLine placed serverBounds taskBounds bounds serverWhole wholes taskFault fault judgeLine grown compared ended readFrom read shown verdictOf responseAt meets interference waits someWaits sound soundState soundServer soundTask soundFront soundLast soundCounts startOf releaseOf judge step1 drops discards step2 step3 step4 settle able highestAble highestTask choose advance tickTaken tickOf after answers releaseLetter tickLetter anotherLetter okWord noWord runWord emptyWord idleWord doneWord cutWord dash tableWord modeWord releaseForm tickLineForm eventSaid eventLine closedLines eventLines outcome answerFields anotherFields refusedFields answerLines nightLines night example two
+unfolding
+    every least up allBelow anyBelow sumBelow highest anew areDigits numberForm isNumber worthFrom digitsIn
+    digits split join closed same tableOf tableKeeps keeps serverKeeps taskKeeps taskFault taskStands differ laterEqual
+    firstPair tickWord serverWord taskWord eventWord timedWord loWord miWord hiWord tickForm serverForm
+    taskForm allFit has lineOf readLine placed serverBounds taskBounds bounds serverWhole wholes fault standing grown compared ended readFrom read shown verdictOf responseAt meets interference waits someWaits
+    sound soundState soundServer soundTask soundFront soundLast soundCounts startOf releaseOf judge step1
+    drops discards step2 step3 step4 settle able highestAble highestTask choose advance tickTaken tickOf after
+    answers releaseLetter tickLetter anotherLetter okWord noWord runWord emptyWord idleWord doneWord cutWord
+    dash tableWord modeWord releaseForm tickLineForm eventSaid eventLine closedLines eventLines outcome
+    answerFields refusedFields answerLines nightLines night example two
 opened = tt

@@ -1,7 +1,7 @@
--- Towards the second bound: while the mode is normal, a timed row above that did not take a tick has spent its
--- capacity, a row with its budget left takes each tick that no row above takes, and the rows above ask what the
--- verdict's interference says. So the response that crate bounds shows for functions of time is kept by the taken
--- ticks. Assumes nothing.
+-- Towards the second bound: while the mode is normal, a timed row above that did not take a tick
+-- has spent its capacity, a row with its budget left takes each tick that no row above takes, and
+-- the rows above ask what the verdict's interference says. So the response that crate bounds shows
+-- for functions of time is kept by the taken ticks. Assumes nothing.
 use mathlib.Core.Path.{_≡_, refl, sym, ap, _∙_}
 use mathlib.Core.Bool.{Bool, true, false, _||_}
 use mathlib.Core.List.{List}
@@ -113,7 +113,8 @@ module _ (t : Table) (ms : List TakenTick) (f : Follows t fresh ms) (a : Accepte
         (charged-unless t a (tickAt ms x .found) j (omega (arith, a .used)) e (λ v o u.
         rw
         (← f .told x (omega arith) .turn)
-        (quiet (there t) (above t i) (chargeOf (course t ms)) x q v o (lt-ltb (priorityAt t i) (priorityAt t v) (omega arith)))))
+        (quiet (there t) (above t i) (chargeOf (course t ms)) x q v o
+        (lt-ltb (priorityAt t i) (priorityAt t v) (omega arith)))))
 
     -- so a timed row above i has then spent its capacity, or its period ends
     spent : (j : ℕ) → j < there t → above t i j ≡ true → timedAt t j ≡ true → (x : ℕ) → suc x < len → Free x →
@@ -157,8 +158,8 @@ module _ (t : Table) (ms : List TakenTick) (f : Follows t fresh ms) (a : Accepte
           + sumBelow (there t) (λ j. if above t i j then asked (timedAt t j) (periodAt t j) (capacityAt t N j) R else 0) ≤ R
       fits = omega (arith, asked-above t i R (a .used))
 
-      -- After x ticks of its period row i lacks at most R - x of its charges, if until then it was timed or had a
-      -- waiting job at each tick before the capacity was reached.
+      -- After x ticks of its period row i lacks at most R - x of its charges, if until then it was
+      -- timed or had a waiting job at each tick before the capacity was reached.
       pub prefix : (x : ℕ) → x ≤ periodAt t i → s + x ≤ len →
           ((y : ℕ) → y < x → window (course t ms i .charge) s y < capacityAt t N i →
           (timedAt t i ≡ true) ⊎ (waits t (tickAt ms (s + y) .found) i ≡ true)) →
@@ -216,7 +217,8 @@ module _ (t : Table) (ms : List TakenTick) (f : Follows t fresh ms) (a : Accepte
 
 -- The same of the counts of specs/Bounds.antt.
 
--- what a server needs at each tick of its period until its capacity is reached: to be timed, or a waiting job
+-- what a server needs at each tick of its period until its capacity is reached: to be timed, or a
+-- waiting job
 needs : (t : Table) (ms : List TakenTick) (i s x c : ℕ) → s + x ≤ length ms →
     (timedAt t i || waitsUntil t i c (inRow ms s x)) ≡ true → (y : ℕ) → y < x → window (course t ms i .charge) s y < c →
     (timedAt t i ≡ true) ⊎ (waits t (tickAt ms (s + y) .found) i ≡ true)

@@ -1,5 +1,5 @@
--- Two runs, computed, that show the bounds at work: their premises can be met, and where one of their words is changed
--- the statement is false. Assumes nothing.
+-- Two runs, computed, that show the bounds at work: their premises can be met, and where one of
+-- their words is changed the statement is false. Assumes nothing.
 use mathlib.Core.Path.{_≡_, refl}
 use mathlib.Core.Bool.{Bool, true, false, _||_}
 use mathlib.Core.List.{List, [], _∷_, _++_, map}
@@ -20,16 +20,19 @@ use Rattle.run.specs.declared.Event.{Event}
 use Rattle.run.specs.declared.Event.the-variants.{Release, Tick}
 use Rattle.run.specs.Release.{freshRun}
 use Rattle.run.specs.Example.{byMode, server, task, rows, example}
-use Rattle.promises.specs.Bounds.{TakenTick, takenTicks, inRow, charges, largestCapacity, touched, normal, wholePeriod, waitsUntil}
+use Rattle.promises.specs.Bounds.{TakenTick, takenTicks, inRow, charges, largestCapacity, touched, normal, wholePeriod}
+use Rattle.promises.specs.Bounds.{waitsUntil}
 use Rattle.promises.proofs.Opened.{opened}
 use Rattle.promises.proofs.Bounds.{first-bound, second-bound}
 
--- The first run is one of document 01's example. Row 1 has period 20, capacity 5 and verdict 9. Four jobs of the event
--- server come before tick 18, so that it is charged late in one period, at ticks 18 and 19, and early in the next, at 20
--- and 21; row 1 then has its 5 ticks from tick 22 on, within the first 9 of its period.
+-- The first run is one of document 01's example. Row 1 has period 20, capacity 5 and verdict 9.
+-- Four jobs of the event server come before tick 18, so that it is charged late in one period, at
+-- ticks 18 and 19, and early in the next, at 20 and 21; row 1 then has its 5 ticks from tick 22 on,
+-- within the first 9 of its period.
 --
--- 18 ticks without a job; four jobs of task 0, and a release that is refused; a tick for each of the four, the later ones
--- with the mark of the job before; the mark of the last; and 17 ticks more: 40 taken ticks
+-- 18 ticks without a job; four jobs of task 0, and a release that is refused; a tick for each of
+-- the four, the later ones with the mark of the job before; the mark of the last; and 17 ticks
+-- more: 40 taken ticks
 unfoldable pub events : List Event
 events =
     replicate 18 (Tick false)
@@ -67,7 +70,8 @@ second-period : wholePeriod example 1 (inRow ticks 20 20) ≡ true
 unfolding computed
 second-period = refl
 
--- so the second bound says that it is charged 5 times in ticks 20 to 39, and 5 times in ticks 20 to 28
+-- so the second bound says that it is charged 5 times in ticks 20 to 39, and 5 times in ticks 20 to
+-- 28
 pub five : (chargedIn 1 20 20 ≡ 5) × (chargedIn 1 20 9 ≡ 5)
 unfolding computed
 five =
@@ -91,7 +95,8 @@ five =
     second-period
     refl
 
--- Row 0, the event server: its verdict is 2, and in its period from tick 20 on a job waits until it is charged twice.
+-- Row 0, the event server: its verdict is 2, and in its period from tick 20 on a job waits until it
+-- is charged twice.
 verdict-two : verdictOf example 0 N ≡ Response (record { 0 = 2 })
 unfolding computed
 verdict-two = refl
@@ -152,17 +157,18 @@ four =
     (omega (arith, taken-forty))
     refl
 
--- And so the run counts: rows 0 and 1 in ticks 18 to 21, in 20 to 28, and in 20 to 39. The 4 is as much as the first
--- bound allows.
+-- And so the run counts: rows 0 and 1 in ticks 18 to 21, in 20 to 28, and in 20 to 39. The 4 is as
+-- much as the first bound allows.
 pub counted : map (λ i. chargedIn i 18 4 ∷ chargedIn i 20 9 ∷ chargedIn i 20 20 ∷ []) (0 ∷ 1 ∷ []) ≡
     (4 ∷ 2 ∷ 2 ∷ []) ∷ (0 ∷ 5 ∷ 5 ∷ []) ∷ []
 unfolding computed
 counted = refl
 
--- The second run. Row 0, the higher, has period 4 and capacities 2, 0, 0; row 1 has period 3, capacities 1, 3, 3 and
--- verdict 3. A job of row 1 runs in tick 2, reaches its limit there, and the mode is D1 in ticks 3, 4 and 5: row 1 is
--- charged in all three, and row 0, which has no capacity in D1, in none. From tick 6 on the mode is N, and row 0 has the
--- rest of its period and the next for itself, ticks 6 to 8: row 1 is not charged in its period from tick 6 on.
+-- The second run. Row 0, the higher, has period 4 and capacities 2, 0, 0; row 1 has period 3,
+-- capacities 1, 3, 3 and verdict 3. A job of row 1 runs in tick 2, reaches its limit there, and the
+-- mode is D1 in ticks 3, 4 and 5: row 1 is charged in all three, and row 0, which has no capacity
+-- in D1, in none. From tick 6 on the mode is N, and row 0 has the rest of its period and the next
+-- for itself, ticks 6 to 8: row 1 is not charged in its period from tick 6 on.
 unfoldable pub raised : Table
 raised =
     tableOf
@@ -207,15 +213,18 @@ pub first-as-stated :
     FirstWith (λ t ms i s W. largestCapacity t i (touched t ms i s W) * (up (W - 1) (periodAt t i) + 1))
 first-as-stated t es ms i s W e q l h m = first-bound t es ms i s W _ _ e q l refl h m refl
 
--- without the "plus 1": 4 charges in ticks 18 to 21 of the first run, and 2 times the round-up of 3/10 is 2
-pub needs-the-one-more : FirstWith (λ t ms i s W. largestCapacity t i (touched t ms i s W) * up (W - 1) (periodAt t i)) → ⊥
+-- without the "plus 1": 4 charges in ticks 18 to 21 of the first run, and 2 times the round-up of
+-- 3/10 is 2
+pub needs-the-one-more : FirstWith (λ t ms i s W. largestCapacity t i (touched t ms i s W) * up (W - 1) (periodAt t i)) →
+    ⊥
 unfolding computed
 needs-the-one-more f =
     let n : 4 ≤ 2 =
     f example events ticks 0 18 4 keeps-rules refl (omega arith) (omega arith) (omega (arith, taken-forty)) in
     omega (arith, n)
 
--- with the capacity of normal mode: 4 charges of row 1 in ticks 2 to 5 of the second run, and 1 times 2 is 2
+-- with the capacity of normal mode: 4 charges of row 1 in ticks 2 to 5 of the second run, and 1
+-- times 2 is 2
 pub needs-the-largest : FirstWith (λ t ms i s W. capacityAt t N i * (up (W - 1) (periodAt t i) + 1)) → ⊥
 unfolding recomputed
 needs-the-largest f =
@@ -227,14 +236,17 @@ abbrev pub firstCapacity : Table → ℕ → List TakenTick → ℕ
 firstCapacity t i [] = 0
 firstCapacity t i (m ∷ ms) = capacityAt t (m .answer .mode) i
 
-pub needs-every-tick : FirstWith (λ t ms i s W. firstCapacity t i (touched t ms i s W) * (up (W - 1) (periodAt t i) + 1)) → ⊥
+pub needs-every-tick : FirstWith (λ t ms i s W. firstCapacity t i (touched t ms i s W) * (up (W - 1) (periodAt t i) + 1)) →
+    ⊥
 unfolding recomputed
 needs-every-tick f =
     let n : 4 ≤ 2 = f raised raisedEvents raisedTicks 1 2 4 refl refl (omega arith) (omega arith) (omega arith) in
     omega (arith, n)
 
--- The second bound, with other ticks to be normal, another test of who waits, and another number of ticks for R.
-abbrev pub SecondWith : (List TakenTick → ℕ → ℕ → List TakenTick) → (Table → ℕ → ℕ → List TakenTick → Bool) → (ℕ → ℕ) → Type 0
+-- The second bound, with other ticks to be normal, another test of who waits, and another number of
+-- ticks for R.
+abbrev pub SecondWith : (List TakenTick → ℕ → ℕ → List TakenTick) → (Table → ℕ → ℕ → List TakenTick → Bool) → (ℕ → ℕ) →
+    Type 0
 SecondWith calm works first =
     (t : Table) (es : List Event) (ms : List TakenTick) (i s R : ℕ) → tableKeeps t ≡ true →
     ms ≡ takenTicks (freshRun t) es → i < t .nservers → 1 ≤ capacityAt t N i →
@@ -253,7 +265,8 @@ timedOrWaits t i C ms = isTimed (serverAt t i .kind) || waitsUntil t i C ms
 pub second-as-stated : SecondWith sinceTheStart timedOrWaits (λ R. R)
 second-as-stated t es ms i s R e q l c v n u w = second-bound t es ms i s _ _ R e q l refl refl c v n u w
 
--- with the mode normal in the period only: row 1 in the second run's ticks 6 to 8, where it is charged 0 times and not 1
+-- with the mode normal in the period only: row 1 in the second run's ticks 6 to 8, where it is
+-- charged 0 times and not 1
 pub needs-since-the-start : SecondWith inRow timedOrWaits (λ R. R) → ⊥
 unfolding recomputed
 needs-since-the-start f =
@@ -269,7 +282,8 @@ needs-a-waiting-job f =
     f example events ticks 0 0 2 keeps-rules refl (omega arith) (omega arith) verdict-two refl refl refl in
     omega (arith, n .0)
 
--- within the first R - 1 ticks: row 0 is charged once in the first of its ticks 20 to 29, and its verdict is 2
+-- within the first R - 1 ticks: row 0 is charged once in the first of its ticks 20 to 29, and its
+-- verdict is 2
 pub needs-all-of-R : SecondWith sinceTheStart timedOrWaits (λ R. R - 1) → ⊥
 unfolding computed
 needs-all-of-R f =

@@ -1,13 +1,14 @@
--- The taken ticks of a run, one after the other: each finds the counts that the one before left, started afresh where
--- the period is over, and says what step 5 chose. So every server keeps its account (crate bounds) in the course of any
--- events, from any state whose elapsed counts are within the periods. Assumes nothing.
+-- The taken ticks of a run, one after the other: each finds the counts that the one before left,
+-- started afresh where the period is over, and says what step 5 chose. So every server keeps its
+-- account (crate bounds) in the course of any events, from any state whose elapsed counts are
+-- within the periods. Assumes nothing.
 use mathlib.Core.Path.{_≡_, refl, sym, ap, _∙_}
 use mathlib.Core.Bool.{Bool, true, false}
 use mathlib.Core.List.{List, [], _∷_, _++_}
 use mathlib.Core.Logic.{inl, inr}
-use Prim.Native.Nat.{ℕ, zero, suc, _+_, _*_, _-_, _/_, _%_, _≤_, _<_}
+use Prim.Native.Nat.{ℕ, zero, suc, _+_, _*_, _-_, _≤_, _<_}
 use native.Mathlib.Omega.{arith}
-use native.Mathlib.Nat.{add-zero, add-suc, zero-mul, div-add-mod', mod-lt}
+use native.Mathlib.Nat.{add-zero, add-suc, zero-mul}
 use native.Mathlib.Numerals.{add-one}
 use lib.Dec.{eqb}
 use lib.ListN.{length, getD, replicate}
@@ -31,12 +32,17 @@ use Rattle.run.specs.Release.{withJob}
 use Rattle.run.specs.Tick.{settle, choose, tickTaken}
 use Rattle.run.proofs.Taken.{release-ind, tick-ind, releaseTaken, tickedTaken}
 use Rattle.run.proofs.Shape.{Shaped, job-shaped, tick-shaped}
-use Rattle.run.proofs.Tick.{used-settled, elapsed-settled, used-after, elapsed-after, answer-mode, answer-turn, charged-able, able-room, charged-is, charged-le}
+use Rattle.run.proofs.Tick.{used-settled, elapsed-settled, used-after, elapsed-after, answer-mode, answer-turn, charged-able}
+use Rattle.run.proofs.Tick.{able-room, charged-is, charged-le}
 use Rattle.promises.specs.Bounds.{TakenTick, takenBy, takenTicks}
 
 -- what stands where no tick was taken
 abbrev pub noTick : TakenTick
-noTick = record { found = fresh; answer = record { tick = 0; mode = N; turn = Idle; left = Nobody; discarded = 0 } }
+noTick =
+    record {
+      found = fresh;
+      answer = record { tick = record { 0 = 0 }; mode = N; turn = Idle; left = Nobody; discarded = 0 };
+    }
 
 abbrev pub tickAt : List TakenTick → ℕ → TakenTick
 tickAt ms x = getD ms x noTick
@@ -65,7 +71,8 @@ pub record Follows (t : Table) (s : State) (ms : List TakenTick) : Type 0 where
   pub told : (x : ℕ) → x < length ms → Told t (tickAt ms x)
   pub first : 0 < length ms → (i : ℕ) → i < t .nservers → Refilled t i (usedAt s i) (elapsedAt s i) (tickAt ms 0 .found)
   pub next : (x : ℕ) → suc x < length ms → (i : ℕ) → i < t .nservers →
-      Refilled t i (usedAt (tickAt ms x .found) i + charged (tickAt ms x .answer .turn) i) (elapsedAt (tickAt ms x .found) i + 1)
+      Refilled t i (usedAt (tickAt ms x .found) i + charged (tickAt ms x .answer .turn) i)
+      (elapsedAt (tickAt ms x .found) i + 1)
       (tickAt ms (suc x) .found)
 
 follows-none : (t : Table) (s : State) → Follows t s []
@@ -162,7 +169,8 @@ refilled-next t i ms x r = go (eqb (elapsedAt (tickAt ms x .found) i + 1) (perio
     e : ℕ
     e = elapsedAt (tickAt ms x .found) i + 1
 
-    go : (b : Bool) → eqb e (periodAt t i) ≡ b → usedAt z i ≡ (if b then 0 else u) → elapsedAt z i ≡ (if b then 0 else e) →
+    go : (b : Bool) → eqb e (periodAt t i) ≡ b → usedAt z i ≡ (if b then 0 else u) →
+        elapsedAt z i ≡ (if b then 0 else e) →
         Next (periodAt t i) (course t ms i) x
     go true q v w = refills (omega (arith, eqb-true e (periodAt t i) q)) w v
     go false q v w = goes (omega (arith, charged-le (tickAt ms x .answer .turn) i)) (omega arith) v
@@ -223,7 +231,8 @@ module _ (t : Table) (ms : List TakenTick) (f : Follows t fresh ms) (h : 0 < len
       f .first h i l .elapsed
       ∙ if-ind (λ (n : ℕ). n ≡ 0) (eqb (elapsedAt fresh i) (periodAt t i)) (λ e. refl) (λ e. zeros 32 i)
 
--- From a fresh start step 5 finds elapsed 0 at tick q T, and one more at each tick to the period's end.
+-- From a fresh start step 5 finds elapsed 0 at tick q T, and one more at each tick to the period's
+-- end.
 module _ (t : Table) (ms : List TakenTick) (f : Follows t fresh ms) (i : ℕ) (l : i < t .nservers) (p : 1 ≤ periodAt t i) where
   counts-on : (x e : ℕ) → suc x < length ms → elapsedAt (tickAt ms x .found) i ≡ e → suc e < periodAt t i →
       elapsedAt (tickAt ms (suc x) .found) i ≡ suc e

@@ -6,6 +6,7 @@ use mathlib.Core.List.{List, [], _∷_, _++_, map}
 use Prim.Native.Nat.{ℕ, _+_, _*_, _-_, _≤_, _<_}
 use lib.Dec.{eqb}
 use lib.ListN.{length, take, drop}
+use Rattle.laws.specs.Choice.{larger}
 use Rattle.laws.specs.RoundUp.{up}
 use Rattle.table.specs.declared.Mode.{Mode}
 use Rattle.table.specs.declared.Mode.the-variants.{N, D1, D2}
@@ -20,9 +21,8 @@ use Rattle.run.specs.declared.Event.{Event}
 use Rattle.run.specs.declared.Event.the-variants.{Release, Tick}
 use Rattle.run.specs.declared.TickAnswer.{TickAnswer}
 use Rattle.run.specs.declared.Answer.{Answer}
-use Rattle.run.specs.declared.Answer.the-variants.{Started, Released, Ticked, No}
+use Rattle.run.specs.declared.Answer.the-variants.{Released, Ticked, No}
 use Rattle.run.specs.State.{elapsedAt, waits}
-use Rattle.run.specs.Sound.{larger}
 use Rattle.run.specs.Answers.{charged}
 use Rattle.run.specs.Release.{freshRun}
 use Rattle.run.specs.Tick.{settle}
@@ -36,7 +36,6 @@ pub record TakenTick : Type 0 where
 -- the tick, if the event is one and is taken
 abbrev pub takenBy : Run → Event → Answer → List TakenTick
 takenBy r (Release k) a = []
-takenBy r (Tick mark) Started = []
 takenBy r (Tick mark) (Released k) = []
 takenBy r (Tick mark) (Ticked a) = record { found = settle (r .table) (r .state) mark .state; answer = a } ∷ []
 takenBy r (Tick mark) (No why) = []
@@ -117,7 +116,6 @@ SecondBound =
 
 -- The taken ticks' answers are the tick answers among all that is answered, in the same order.
 abbrev pub tickAnswer : Answer → List TickAnswer
-tickAnswer Started = []
 tickAnswer (Released k) = []
 tickAnswer (Ticked a) = a ∷ []
 tickAnswer (No why) = []
