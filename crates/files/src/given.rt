@@ -1,6 +1,6 @@
 // The table that a program is given: read, or answered as refused.
 
-use lines::answer::LONGEST_ANSWER;
+use lines::LONGEST_ANSWER;
 use table::Table;
 use text::LONGEST_TEXT;
 use text::Reading;
@@ -18,7 +18,7 @@ pub struct Given {
 // "A refused table prints only" its one line.
 fn say_refused(a: Reading) {
     let mut line = [0u8; LONGEST_ANSWER];
-    let n = lines::answer::put_refused(a, &mut line, 0);
+    let n = printer::put_refused(a, &mut line, 0);
     crate::write_first(&line, n);
 }
 

@@ -22,12 +22,12 @@ use Rattle.run.specs.declared.EventLine.the-variants.{Of, Another}
 use Rattle.run.specs.declared.Taking.the-variants.{Taken, Refused}
 use Rattle.run.specs.Values.{lineValues, allLineValues}
 use Rattle.run.proofs.Values.{line-length}
-use Rattle.lines.specs.declared.cut.Held.{Held}
+use Rattle.lines.specs.declared.Held.{Held}
 use Rattle.lines.specs.EventLine.{eventLine, closedLines, eventLines}
-use Rattle.lines.specs.Held.{lineIn, heldOf}
+use Rattle.lines.specs.HeldLine.{lineIn, heldOf}
 use Rattle.lines.specs.Cutting.{linesIn, leftIn, lastLine, takenFor, Cutting}
 use Rattle.lines.specs.Cutting.{cutting, CutInto, cutFirst, cutOf}
-use Rattle.lines.proofs.Held.{alike-says, alike-more, none-held}
+use Rattle.lines.proofs.HeldLine.{alike-says, alike-more, none-held}
 
 -- one byte: a line feed, or another
 lines-at : (l : List ℕ) (b : ℕ) (bs : List ℕ) → eqb b lineFeed ≡ true → linesIn l (b ∷ bs) ≡ eventLine l ∷ linesIn [] bs

@@ -19,8 +19,7 @@ use Rattle.decimal.proofs.Lines.{lacks, split-part, split-whole, join-split, sa
 use Rattle.decimal.proofs.Numbers.{number-long}
 use Rattle.run.specs.declared.Event.the-variants.{Release, Tick}
 use Rattle.run.specs.declared.EventLine.the-variants.{Of, Another}
-use Rattle.lines.specs.Words.{releaseLetter, tickLetter}
-use Rattle.lines.specs.Held.{longest}
+use Rattle.lines.specs.HeldLine.{longest}
 use Rattle.lines.specs.EventLine.{releaseForm, tickForm, eventSaid, eventLine}
 
 -- a letter, R or T, a tab and a number
@@ -64,7 +63,7 @@ formed l letter w bs t e =
 
 -- a line that is not of this form is another line
 not-event : (l : List ℕ) → (Formed l → ⊥) → Another ≡ eventLine l
-unfolding eventLine eventSaid releaseForm tickForm releaseLetter tickLetter
+unfolding eventLine eventSaid releaseForm tickForm
 not-event l h =
     let fs = split tab l in
     rw (
@@ -133,19 +132,19 @@ found-fields (a ∷ (b ∷ bs)) letter v f h =
     (split-whole tab bs (number-lacks tab bs (omega arith) (n .0))))
 
 pub said-release : (l : List ℕ) (v : ℕ) → Found l 82 v → Of (Release v) ≡ eventLine l
-unfolding eventLine eventSaid releaseForm releaseLetter every same lacks
+unfolding eventLine eventSaid releaseForm every same lacks
 said-release l v f =
     let n = number-value (drop 2 l) v (f .number) in rw (found-fields l 82 v f refl, n .0, n .1)
 
 pub said-tick : (l : List ℕ) (v : ℕ) (mark : Bool) → Found l 84 v → v ≤ 1 → eqb v 1 ≡ mark → Of
     (Tick mark) ≡ eventLine l
-unfolding eventLine eventSaid releaseForm releaseLetter tickForm tickLetter every same lacks
+unfolding eventLine eventSaid releaseForm tickForm every same lacks
 said-tick l v mark f h m =
     let n = number-value (drop 2 l) v (f .number) in
     rw (found-fields l 84 v f refl, n .0, n .1, le-leb v 1 h, m)
 
 pub said-mark : (l : List ℕ) (v : ℕ) → Found l 84 v → 1 < v → Another ≡ eventLine l
-unfolding eventLine eventSaid releaseForm releaseLetter tickForm tickLetter every same lacks
+unfolding eventLine eventSaid releaseForm tickForm every same lacks
 said-mark l v f h =
     let n = number-value (drop 2 l) v (f .number) in
     rw (found-fields l 84 v f refl, n .0, n .1, lt-leb v 1 h)

@@ -1,6 +1,4 @@
 pub mod EventLine
-pub mod Held
+pub mod HeldLine
 pub mod Cutting
-pub mod Values
-pub mod Inner
 pub mod Print

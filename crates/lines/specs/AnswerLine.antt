@@ -44,13 +44,13 @@ tickFields a =
 abbrev pub noFields : ℕ → List (List ℕ)
 noFields number = noWord ∷ digits number ∷ []
 
-unfoldable pub outcome : Told → List (List ℕ)
+abbrev pub outcome : Told → List (List ℕ)
 outcome (Released k) = okWord ∷ []
 outcome (Ticked a) = tickFields a
 outcome (No number) = noFields number
 
 -- a release's answer repeats the task, a tick's does not repeat the mark
-unfoldable pub answerFields : EventLine → Told → List (List ℕ)
+abbrev pub answerFields : EventLine → Told → List (List ℕ)
 answerFields (Of (Release k)) x = releaseLetter ∷ digits k ∷ outcome x
 answerFields (Of (Tick mark)) x = tickLetter ∷ outcome x
 answerFields Another x = anotherLetter ∷ outcome x
@@ -60,7 +60,7 @@ abbrev pub anotherFields : List (List ℕ)
 anotherFields = answerFields Another (No (numberOf Malformed))
 
 -- "A refused table prints only `table⇥no⇥number⇥line`, for 5 with the second line after it."
-unfoldable pub refusedFields : Reading → List (List ℕ)
+abbrev pub refusedFields : Reading → List (List ℕ)
 refusedFields a = tableWord ∷ noWord ∷ digits (readingNumber a) ∷ map digits (readingLines a)
 
 abbrev pub printed : List (List ℕ) → List ℕ

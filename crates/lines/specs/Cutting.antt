@@ -14,10 +14,10 @@ use Rattle.run.specs.declared.EventLine.{EventLine}
 use Rattle.run.specs.declared.EventLine.the-variants.{Another}
 use Rattle.run.specs.declared.Taking.the-variants.{Taken, Refused}
 use Rattle.run.specs.Values.{allLineValues}
-use Rattle.lines.specs.declared.cut.Held.{Held}
-use Rattle.lines.specs.declared.cut.Cut.{Cut}
+use Rattle.lines.specs.declared.Held.{Held}
+use Rattle.lines.specs.declared.Cut.{Cut}
 use Rattle.lines.specs.EventLine.{eventLine}
-use Rattle.lines.specs.Held.{lineIn, heldOf}
+use Rattle.lines.specs.HeldLine.{lineIn, heldOf}
 
 -- the lines that some bytes close, where l is not closed yet before them
 unfoldable pub linesIn : List ℕ → List ℕ → List EventLine

@@ -1,8 +1,7 @@
 pub mod Words
 pub mod EventLine
-pub mod Held
+pub mod HeldLine
 pub mod Cutting
 pub mod AnswerLine
 pub mod Print
 pub mod Night
-pub mod Inner

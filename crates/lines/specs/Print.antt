@@ -10,7 +10,7 @@ use Rattle.table.specs.declared.Refusal.the-variants.{RoomShort}
 use Rattle.run.specs.declared.EventLine.{EventLine}
 use Rattle.run.specs.declared.Taking.the-variants.{Taken, Refused}
 use Rattle.run.specs.Values.{lineSaid, toldAt}
-use Rattle.lines.specs.declared.answer.Printed.{Printed}
+use Rattle.lines.specs.declared.Printed.{Printed}
 use Rattle.lines.specs.AnswerLine.{answerFields, closedLine}
 
 -- No answer line is longer, whatever numbers of 64 bits, of at most 20 digits, it is to show: a

@@ -5,43 +5,43 @@ use Rattle.laws.specs.Quoted.{bytes}
 use Rattle.table.specs.declared.Mode.{Mode}
 use Rattle.table.specs.declared.Mode.the-variants.{N, D1, D2}
 
-unfoldable pub releaseLetter : List ℕ
+abbrev pub releaseLetter : List ℕ
 releaseLetter = bytes "R"
 
-unfoldable pub tickLetter : List ℕ
+abbrev pub tickLetter : List ℕ
 tickLetter = bytes "T"
 
-unfoldable pub anotherLetter : List ℕ
+abbrev pub anotherLetter : List ℕ
 anotherLetter = bytes "?"
 
-unfoldable pub okWord : List ℕ
+abbrev pub okWord : List ℕ
 okWord = bytes "ok"
 
-unfoldable pub noWord : List ℕ
+abbrev pub noWord : List ℕ
 noWord = bytes "no"
 
-unfoldable pub runWord : List ℕ
+abbrev pub runWord : List ℕ
 runWord = bytes "run"
 
-unfoldable pub emptyWord : List ℕ
+abbrev pub emptyWord : List ℕ
 emptyWord = bytes "empty"
 
-unfoldable pub idleWord : List ℕ
+abbrev pub idleWord : List ℕ
 idleWord = bytes "idle"
 
-unfoldable pub doneWord : List ℕ
+abbrev pub doneWord : List ℕ
 doneWord = bytes "done"
 
-unfoldable pub cutWord : List ℕ
+abbrev pub cutWord : List ℕ
 cutWord = bytes "cut"
 
-unfoldable pub dash : List ℕ
+abbrev pub dash : List ℕ
 dash = bytes "-"
 
-unfoldable pub tableWord : List ℕ
+abbrev pub tableWord : List ℕ
 tableWord = bytes "table"
 
-unfoldable pub modeWord : Mode → List ℕ
+abbrev pub modeWord : Mode → List ℕ
 modeWord N = bytes "N"
 modeWord D1 = bytes "D1"
 modeWord D2 = bytes "D2"

@@ -2,8 +2,8 @@
 // in full.) The file is read through a small buffer; the line that is not closed yet is held, so
 // the cutting into reads does not show.
 
-use lines::answer::LONGEST_ANSWER;
-use lines::cut::Held;
+use lines::Held;
+use lines::LONGEST_ANSWER;
 use run::Run;
 
 // The event file is read in pieces of so many bytes.
@@ -63,7 +63,7 @@ fn answer_last(n: Night) {
     let h = n.held;
     let mut line = [0u8; LONGEST_ANSWER];
     if 0 < h.len {
-        let k = lines::answer::put_another(&mut line, 0);
+        let k = printer::put_another(&mut line, 0);
         files::write_first(&line, k);
     }
 }
@@ -117,7 +117,7 @@ fn main() {
     let t = given.table;
     let started = scheduler::start(t);
     let run = started.run;
-    let held = lines::cut::no_line();
+    let held = cutter::no_line();
     answer_all(
         Night {
             run,

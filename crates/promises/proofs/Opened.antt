@@ -19,10 +19,7 @@ use Rattle.run.specs.Release.{startOf, releaseOf}
 use Rattle.run.specs.Tick.{judge, step1, drops, discards, step2, step3, step4, settle, able, highestAble, highestTask, choose}
 use Rattle.run.specs.Tick.{advance, tickTaken, tickOf}
 use Rattle.run.specs.Events.{after, answers}
-use Rattle.lines.specs.Words.{releaseLetter, tickLetter, anotherLetter, okWord, noWord, runWord, emptyWord, idleWord, doneWord}
-use Rattle.lines.specs.Words.{cutWord, dash, tableWord, modeWord}
 use Rattle.lines.specs.EventLine.{releaseForm, tickForm as tickLineForm, eventSaid, eventLine, closedLines, eventLines}
-use Rattle.lines.specs.AnswerLine.{outcome, answerFields, refusedFields}
 use Rattle.lines.specs.Night.{answerLines, nightLines, night}
 use Rattle.run.specs.Example.{example}
 use Rattle.promises.specs.Example.{two}
@@ -35,7 +32,7 @@ unfolding
     taskForm allFit has lineOf readLine placed serverBounds taskBounds bounds serverWhole wholes fault standing grown compared ended readFrom read shown verdictOf responseAt meets interference waits someWaits
     sound soundState soundServer soundTask soundFront soundLast soundCounts startOf releaseOf judge step1
     drops discards step2 step3 step4 settle able highestAble highestTask choose advance tickTaken tickOf after
-    answers releaseLetter tickLetter anotherLetter okWord noWord runWord emptyWord idleWord doneWord cutWord
-    dash tableWord modeWord releaseForm tickLineForm eventSaid eventLine closedLines eventLines outcome
-    answerFields refusedFields answerLines nightLines night example two
+    answers
+    releaseForm tickLineForm eventSaid eventLine closedLines eventLines
+    answerLines nightLines night example two
 opened = tt

@@ -23,6 +23,12 @@ use Rattle.run.specs.declared.Told.the-variants.{No, Released, Ticked}
 use Rattle.run.specs.Values.{lineValues, allLineValues, lineSaid, linesSaid, modeValue, modeSaid, toldValues, toldSaid}
 use Rattle.run.specs.Values.{toldAt}
 
+-- The first number says the case: 0, 1, or another.
+pub others : (w : ℕ) → (w ≡ 0 → ⊥) → (w ≡ 1 → ⊥) → (x : ℕ) × (w ≡ suc (suc x))
+others zero h g = absurd (h refl)
+others (suc zero) h g = absurd (g refl)
+others (suc (suc x)) h g = (x, refl)
+
 -- An event line, of its two numbers.
 pub line-length : (l : EventLine) → length (lineValues l) ≡ 2
 line-length Another = refl
@@ -119,7 +125,7 @@ pub told-back : (x : Told) (ys : List ℕ) → toldAt (toldValues x ++ ys) 0 ≡
 told-back x ys = told-again x ys .1
 
 -- the same at any place
-told-drop : (l : List ℕ) (n : ℕ) → toldAt l n ≡ toldAt (drop n l) 0
+pub told-drop : (l : List ℕ) (n : ℕ) → toldAt l n ≡ toldAt (drop n l) 0
 told-drop l n =
     rw (
       getD-drop n l 0 0 ∙ ap (λ k. getD l k 0) (add-zero n),

@@ -21,14 +21,14 @@ use Rattle.run.specs.declared.Run.{Run}
 use Rattle.run.specs.declared.EventLine.{EventLine}
 use Rattle.run.specs.Sound.{sound}
 use Rattle.run.specs.Many.{toldTo, afterLine, afterLines}
-use Rattle.lines.specs.declared.cut.Held.{Held}
+use Rattle.lines.specs.declared.Held.{Held}
 use Rattle.lines.specs.EventLine.{eventLines}
 use Rattle.lines.specs.AnswerLine.{answerFields, printed}
-use Rattle.lines.specs.Held.{longest, tooLong, lineIn, heldOf}
+use Rattle.lines.specs.HeldLine.{longest, tooLong, lineIn, heldOf}
 use Rattle.lines.specs.Cutting.{linesIn, leftIn, lastLine, takenFor, cutting}
 use Rattle.lines.specs.Print.{longestAnswer}
 use Rattle.lines.specs.Night.{answerLines}
-use Rattle.lines.proofs.Held.{held-again, none-held}
+use Rattle.lines.proofs.HeldLine.{held-again, none-held}
 use Rattle.lines.proofs.Cutting.{lines-append, left-append, alike-lines, alike-left, file-lines}
 use Rattle.serving.specs.Buffer.{batch, linesAtOnce, Buffered, untaken, servedFrom, serveOf}
 

@@ -21,10 +21,10 @@ use Rattle.run.specs.declared.Taking.the-variants.{Taken, Refused}
 use Rattle.run.specs.Sound.{sound}
 use Rattle.run.specs.Values.{linesSaid, allLineValues}
 use Rattle.run.specs.Many.{toldToAll, afterLines, allValues, manyOf, taken, Lent}
-use Rattle.lines.specs.declared.cut.Held.{Held}
-use Rattle.lines.specs.declared.cut.Cut.{Cut}
-use Rattle.lines.specs.declared.answer.Printed.{Printed}
-use Rattle.lines.specs.Held.{lineIn}
+use Rattle.lines.specs.declared.Held.{Held}
+use Rattle.lines.specs.declared.Cut.{Cut}
+use Rattle.lines.specs.declared.Printed.{Printed}
+use Rattle.lines.specs.HeldLine.{lineIn}
 use Rattle.lines.specs.Cutting.{Cutting, cutting, CutInto, cutDone, cutFirst, cutOf}
 use Rattle.lines.specs.Print.{longestAnswer, answerText, PrintedInto, printedFirst, printOf}
 use Rattle.lines.specs.Night.{answerLines}

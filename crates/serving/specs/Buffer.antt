@@ -16,8 +16,8 @@ use Rattle.run.specs.declared.EventLine.{EventLine}
 use Rattle.run.specs.declared.Taking.the-variants.{Taken, Refused}
 use Rattle.run.specs.Sound.{sound}
 use Rattle.run.specs.Many.{afterLines}
-use Rattle.lines.specs.declared.cut.Held.{Held}
-use Rattle.lines.specs.Held.{lineIn, heldOf}
+use Rattle.lines.specs.declared.Held.{Held}
+use Rattle.lines.specs.HeldLine.{lineIn, heldOf}
 use Rattle.lines.specs.Cutting.{Cutting, cutting}
 use Rattle.lines.specs.Print.{longestAnswer}
 use Rattle.lines.specs.Night.{answerLines}

@@ -13,8 +13,8 @@ use Rattle.run.specs.declared.Taking.{Taking}
 use Rattle.run.specs.declared.Taking.the-variants.{Taken, Refused}
 use Rattle.run.specs.Sound.{sound}
 use Rattle.run.specs.Values.{linesSaid, allLineValues}
-use Rattle.lines.specs.declared.cut.Held.{Held}
-use Rattle.lines.specs.declared.cut.Cut.{Cut}
+use Rattle.lines.specs.declared.Held.{Held}
+use Rattle.lines.specs.declared.Cut.{Cut}
 use Rattle.lines.specs.Print.{longestAnswer}
 use Rattle.serving.specs.Buffer.{Buffered, untaken, answered, batch}
 

@@ -2,11 +2,11 @@
 // what is told to bytes. (01, One night in full.) The three rooms stand in the crates below; this
 // is their composition, and no loop over bytes is here.
 
-use lines::answer::LONGEST_ANSWER;
-use lines::answer::print_lines;
-use lines::cut::Cut;
-use lines::cut::Held;
-use lines::cut::cut_lines;
+use cutter::cut_lines;
+use lines::Cut;
+use lines::Held;
+use lines::LONGEST_ANSWER;
+use printer::print_lines;
 use run::LINE_VALUES;
 use run::Run;
 use run::TOLD_VALUES;

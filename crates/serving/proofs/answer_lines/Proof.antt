@@ -28,21 +28,6 @@ fits c = omega (arith, c .pre .few, length-replicate {A = ℕ} (9 * batch) 0)
 abbrev entry : tie.After-answer-many → tie.Start
 entry c = c .before .before .before .before
 
-slice-aggregate-answer-many : tie.Need-slice-aggregate-answer-many
-slice-aggregate-answer-many c = search needs
-
-answer-many-requires : tie.Need-answer-many-requires
-answer-many-requires c κs = search needs
-
-enum-told : tie.Need-enum-told
-enum-told c = search needs
-
-enum-told-2 : tie.Need-enum-told-2
-enum-told-2 c = search needs
-
-refused-requires : tie.Need-refused-requires
-refused-requires c κs = search needs
-
 returns : tie.Need-returns
 unfolding batch
 returns c =
@@ -53,9 +38,6 @@ returns c =
     (told-unsound (a .r) (a .lines .now) (replicate (9 * batch) 0) (fits (entry m)) _ _ (m .answer-many .ensures)
     (ap isTaken (c .before .enum-told2 .given .1)))
 
-enum-told-3 : tie.Need-enum-told-3
-enum-told-3 c = search needs
-
 -- a run that answered is sound
 is-sound : (c : tie.After-enum-told) → sound (entry (c .before .before .before) .args .r) ≡ true
 unfolding batch
@@ -65,12 +47,6 @@ is-sound c =
     told-sound (a .r) (a .lines .now) (replicate (9 * batch) 0) (fits (entry m)) _ _ (m .answer-many .ensures)
     (c .enum-told .given .1)
 
-enum-told-4 : tie.Need-enum-told-4
-enum-told-4 c = search needs
-
-refused-requires-2 : tie.Need-refused-requires-2
-refused-requires-2 c κs = search needs
-
 returns-2 : tie.Need-returns-2
 returns-2 c =
     let t = c .before .before .before in
@@ -78,9 +54,6 @@ returns-2 c =
     ap (λ x. record { served = x; room = a .room .now }) (c .refused2 .ensures) ∙
     cut-refused (a .r) (a .h) (a .c) (linesSaid (a .lines .now)) (a .room .now) (is-sound t)
     (ap isTaken (c .before .enum-told4 .given .1))
-
-mul-told : tie.Need-mul-told
-mul-told c = search needs
 
 -- what the run told, and how much of it there is
 told-room : (c : tie.After-answer-many) → 9 * (length (entry c .args .lines .now) / 2) ≤ length
@@ -94,12 +67,6 @@ array-share-prefix-told c = told-room (c .before .before .before .before .before
 
 slice-aggregate-print-lines : tie.Need-slice-aggregate-print-lines
 slice-aggregate-print-lines c = sym (length-take-le _ _ (told-room (c .before .before .before .before .before .before)))
-
-print-lines-requires : tie.Need-print-lines-requires
-print-lines-requires c κs = search needs
-
-same-length : tie.Need-same-length
-same-length c = search needs
 
 returns-3 : tie.Need-returns-3
 unfolding batch
@@ -126,6 +93,7 @@ returns-3 c =
 pub answer-lines-spec : {M : Type 1} → statement M
 answer-lines-spec =
     tie.close
-    (tie.spec slice-aggregate-answer-many answer-many-requires enum-told enum-told-2
-    refused-requires returns enum-told-3 enum-told-4 refused-requires-2 returns-2 mul-told
-    array-share-prefix-told slice-aggregate-print-lines print-lines-requires same-length returns-3)
+    (tie.spec (λ c. search needs) (λ c κs. search needs) (λ c. search needs) (λ c. search needs)
+    (λ c κs. search needs) returns (λ c. search needs) (λ c. search needs) (λ c κs. search needs)
+    returns-2 (λ c. search needs) array-share-prefix-told slice-aggregate-print-lines
+    (λ c κs. search needs) (λ c. search needs) returns-3)

@@ -26,9 +26,6 @@ lent-long c =
     length-take-le (2 * c .lines-at-once .result) zeros
     (omega (arith, few c, length-replicate {A = ℕ} (2 * batch) 0))
 
-lines-at-once-requires : tie.Need-lines-at-once-requires
-lines-at-once-requires c κs = search needs
-
 mul-values : tie.Need-mul-values
 unfolding batch
 mul-values c = record { fits = omega (arith, few c) }
@@ -40,9 +37,6 @@ array-borrow-prefix-values c = omega (arith, few c)
 slice-aggregate-cut-lines : tie.Need-slice-aggregate-cut-lines
 unfolding batch
 slice-aggregate-cut-lines c = sym (lent-long (c .before))
-
-cut-lines-requires : tie.Need-cut-lines-requires
-cut-lines-requires c κs = search needs
 
 -- what is lent of the numbers, and all of them after it
 abbrev lent : tie.After-cut-lines → List ℕ
@@ -93,9 +87,6 @@ answer-lines-requires c κs =
     (k .cut-lines .last .1 .1 .0) (rest k)
     (k .cut-lines .ensures)
 
-same-length : tie.Need-same-length
-same-length c = search needs
-
 returns : tie.Need-returns
 unfolding batch
 returns c =
@@ -110,6 +101,6 @@ returns c =
 pub serve-spec : {M : Type 1} → statement M
 serve-spec =
     tie.close
-    (tie.spec lines-at-once-requires mul-values array-borrow-prefix-values slice-aggregate-cut-lines
-    cut-lines-requires mul-values-2 array-share-prefix-values slice-aggregate-answer-lines
-    answer-lines-requires same-length returns)
+    (tie.spec (λ c κs. search needs) mul-values array-borrow-prefix-values slice-aggregate-cut-lines
+    (λ c κs. search needs) mul-values-2 array-share-prefix-values slice-aggregate-answer-lines
+    answer-lines-requires (λ c. search needs) returns)

@@ -1,0 +1,16 @@
+-- `printer::said::turn_said` meets its contract: what a tick says, by its numbers. Assumes nothing.
+use Rattle.run.proofs.Values.{others}
+use Rattle.printer.proofs.said.turn_said.Statement.{statement}
+use Rattle.printer.proofs.said.turn_said.Tie as tie
+
+returns : tie.Need-returns
+returns c = rw (c .if1 .taken)
+
+returns-2 : tie.Need-returns-2
+returns-2 c = rw (c .if2 .taken)
+
+returns-3 : tie.Need-returns-3
+returns-3 c = rw (others _ (c .before .if1 .left) (c .if2 .left) .1)
+
+pub turn-said-spec : {M : Type 1} → statement M
+turn-said-spec = tie.close (tie.spec returns returns-2 returns-3)
