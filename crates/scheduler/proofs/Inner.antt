@@ -1,3 +1,4 @@
+pub mod Parts
 pub mod Columns
 pub mod Steps
 pub mod Choose

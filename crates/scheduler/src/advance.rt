@@ -1,7 +1,6 @@
 // What steps 5 to 7 of a tick change. (01, What one tick does.)
 
 use crate::parts::Head;
-use run::Last;
 use run::Turn;
 use table::SERVERS;
 use table::TASKS;
@@ -9,16 +8,28 @@ use units::Ticks;
 ghost use mathlib.Core.Path.{_≡_};
 ghost use Prim.Native.Nat.{_+_, _≤_, _<_};
 ghost use lib.ListN.{getD, set};
-ghost use Rattle.run.specs.Tick.{lastOf};
-ghost use Rattle.scheduler.specs.Inner.Steps.{ChargeFits, Charges, RunFits, RunsFront, Low, Ages, CountsFit, Advances};
+ghost use Rattle.scheduler.specs.Inner.Steps.{ChargeFits, Charges, RunFits, RunsFront, afterRun, Low, Ages, CountsFit, Advances};
 
-fn last_of(turn: Turn) -> Last
-    ensures { λ r. ⌜ r ≡ lastOf turn ⌝ }
+// The job that is run in this tick is the last-run job of the next.
+fn after_run(h: Head, turn: Turn) -> Head
+    ensures { λ r. ⌜ r ≡ afterRun h turn ⌝ }
 {
     match turn {
-        Turn::Run { server: _, task } => Last::Job(task),
-        Turn::Empty { server: _ } => Last::NoJob,
-        Turn::Idle => Last::NoJob,
+        Turn::Run { server: _, task } => Head {
+            ran: true,
+            task,
+            ..h
+        },
+        Turn::Empty { server: _ } => Head {
+            ran: false,
+            task: 0,
+            ..h
+        },
+        Turn::Idle => Head {
+            ran: false,
+            task: 0,
+            ..h
+        },
     }
 }
 
@@ -94,8 +105,8 @@ pub(crate) fn advance(
     charge(turn, used);
     run_front(turn, runs);
     age(h.nservers, elapsed);
-    let last = last_of(turn);
     let t = h.ticks;
     let ticks = Ticks(t.0 + 1);
-    Head { last, ticks, ..h }
+    let ran = after_run(h, turn);
+    Head { ticks, ..ran }
 }

@@ -12,7 +12,6 @@ use crate::sheets::SERVER_CELLS;
 use crate::sheets::TASK_CELLS;
 use run::Answer;
 use run::Event;
-use run::Last;
 use run::MOST;
 use run::QUEUE;
 use run::TickAnswer;
@@ -25,7 +24,6 @@ ghost use mathlib.Core.Path.{_≡_};
 ghost use mathlib.Core.Bool.{not, _&&_, _||_};
 ghost use Prim.Native.Nat.{_≤_, _<_};
 ghost use Rattle.table.specs.Rows.{isLow, isD2};
-ghost use Rattle.run.specs.Tick.{ranJob};
 ghost use Rattle.scheduler.specs.Inner.Events.{Admits, Releases, SomeRun, TicksOnce, Takes};
 
 fn low_in_d2(m: Mode, l: Level) -> bool
@@ -92,16 +90,13 @@ pub(crate) fn release_in(
 }
 
 // Whether a mark may come: 9 is for mark 1 where the last taken tick ran no job.
-fn mark_may_come(last: Last, mark: bool) -> bool
-    ensures { λ r. ⌜ r ≡ (not mark || ranJob last) ⌝ }
+fn mark_may_come(ran: bool, mark: bool) -> bool
+    ensures { λ r. ⌜ r ≡ (not mark || ran) ⌝ }
 {
     if !mark {
         return true;
     }
-    match last {
-        Last::NoJob => false,
-        Last::Job(_) => true,
-    }
+    ran
 }
 
 // One tick, steps 1 to 7. Refused: 9, 10.
@@ -121,9 +116,8 @@ pub(crate) fn tick_in(
         (now (used .entry)) (now (elapsed .entry)) (now (waiting .entry)) (now (runs .entry))
         (now (used .exit)) (now (elapsed .exit)) (now (waiting .exit)) (now (runs .exit)) r ⌝ }
 {
-    let last = h.last;
     let tick = h.ticks;
-    if !mark_may_come(last, mark) {
+    if !mark_may_come(h.ran, mark) {
         return Step {
             answer: Answer::No(Refusal::NoJobRan),
             head: h,

@@ -11,14 +11,18 @@ use table::TASKS;
 use table::Table;
 use units::Ticks;
 ghost use mathlib.Core.Path.{_≡_};
-ghost use Rattle.scheduler.specs.Inner.Parts.{headOf, runOf};
+ghost use Rattle.run.specs.Tick.{ranJob};
+ghost use Rattle.scheduler.specs.Inner.Parts.{lastTask, lastIn, headOf, runOf};
 
-// A run without its rows and their counts.
+// A run without its rows and their counts. `ran` says whether the last taken tick ran a job, and
+// `task` of which task; it is 0 if none. Two plain fields and no enum, since a head is copied at
+// every step and an enum's gaps make that slow.
 pub struct Head {
     pub nservers: usize,
     pub ntasks: usize,
+    pub task: usize,
     pub mode: Mode,
-    pub last: Last,
+    pub ran: bool,
     pub ticks: Ticks,
     pub accepted: u32,
 }
@@ -29,17 +33,47 @@ pub struct Step {
     pub head: Head,
 }
 
+fn ran_job(last: Last) -> bool
+    ensures { λ r. ⌜ r ≡ ranJob last ⌝ }
+{
+    match last {
+        Last::NoJob => false,
+        Last::Job(_) => true,
+    }
+}
+
+fn last_task(last: Last) -> usize
+    ensures { λ r. ⌜ r ≡ lastTask last ⌝ }
+{
+    match last {
+        Last::NoJob => 0,
+        Last::Job(k) => k,
+    }
+}
+
+fn last_in(ran: bool, task: usize) -> Last
+    ensures { λ r. ⌜ r ≡ lastIn ran task ⌝ }
+{
+    if ran {
+        return Last::Job(task);
+    }
+    Last::NoJob
+}
+
 pub(crate) fn head_of(t: Table, s: State) -> Head
     ensures { λ r. ⌜ r ≡ headOf t s ⌝ }
 {
     let mode = s.mode;
     let last = s.last;
     let ticks = s.ticks;
+    let ran = ran_job(last);
+    let task = last_task(last);
     Head {
         nservers: t.nservers,
         ntasks: t.ntasks,
+        task,
         mode,
-        last,
+        ran,
         ticks,
         accepted: s.accepted,
     }
@@ -57,7 +91,7 @@ pub(crate) fn run_of(
     ensures { λ r. ⌜ r ≡ runOf t h used elapsed waiting runs ⌝ }
 {
     let mode = h.mode;
-    let last = h.last;
+    let last = last_in(h.ran, h.task);
     let ticks = h.ticks;
     let state = State {
         mode,

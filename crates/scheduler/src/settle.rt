@@ -10,7 +10,6 @@ use crate::sheets::PERIOD;
 use crate::sheets::SERVER_CELLS;
 use crate::sheets::TASK_CELLS;
 use run::Judged;
-use run::Last;
 use run::Left;
 use table::ByMode;
 use table::Level;
@@ -24,7 +23,7 @@ ghost use lib.ListN.{getD, set};
 ghost use Rattle.laws.specs.Choice.{if_then_else_};
 ghost use Rattle.laws.specs.Rows.{anew, anyBelow, sumBelow};
 ghost use Rattle.run.specs.Tick.{enters};
-ghost use Rattle.scheduler.specs.Inner.Steps.{Judges, JudgesInD2, RanJob, Marks, keptOf, goneOf, Discards, waitsAt, SettlesMode, Refills, Few, Settles};
+ghost use Rattle.scheduler.specs.Inner.Steps.{Judges, JudgesInD2, RanJob, Marks, keptOf, goneOf, Discards, waitsAt, isN, SettlesMode, Refills, Few, Settles};
 
 // The mode after step 1, and the job that left.
 pub struct Risen {
@@ -129,42 +128,40 @@ fn mark_job(
     runs: &mut [u32; TASKS],
     mark: bool,
 ) -> Risen
-    requires { ⌜ RanJob h (h .last) (now waiting) ⌝ }
+    requires { ⌜ Few h × RanJob h (now waiting) ⌝ }
     ensures { λ r.
         ⌜ Marks h (now (tasks .entry)) mark (now (waiting .entry)) (now (runs .entry))
         (now (waiting .exit)) (now (runs .exit)) r ⌝ }
 {
     let m = h.mode;
-    let last = h.last;
-    match last {
-        Last::NoJob => Risen {
+    let k = h.task;
+    if !h.ran {
+        return Risen {
             mode: m,
             left: Left::Nobody,
-        },
-        Last::Job(k) => {
-            if mark {
-                leave(k, waiting, runs);
-                return Risen {
-                    mode: m,
-                    left: Left::Done(k),
-                };
-            }
-            let x = limits_of(tasks, k);
-            let l = sheets::level_in(sheets::task_cell(tasks, LEVEL, k));
-            let j = judge_job(x, l, runs[k], m);
-            let after = j.mode;
-            if j.cut {
-                leave(k, waiting, runs);
-                return Risen {
-                    mode: after,
-                    left: Left::Cut(k),
-                };
-            }
-            Risen {
-                mode: after,
-                left: Left::Nobody,
-            }
-        }
+        };
+    }
+    if mark {
+        leave(k, waiting, runs);
+        return Risen {
+            mode: m,
+            left: Left::Done(k),
+        };
+    }
+    let x = limits_of(tasks, k);
+    let l = sheets::level_in(sheets::task_cell(tasks, LEVEL, k));
+    let j = judge_job(x, l, runs[k], m);
+    let after = j.mode;
+    if j.cut {
+        leave(k, waiting, runs);
+        return Risen {
+            mode: after,
+            left: Left::Cut(k),
+        };
+    }
+    Risen {
+        mode: after,
+        left: Left::Nobody,
     }
 }
 
@@ -172,10 +169,10 @@ fn mark_job(
 fn enters_d2(before: Mode, after: Mode) -> bool
     ensures { λ r. ⌜ r ≡ enters before after ⌝ }
 {
-    if table::is_d2(before) {
-        return false;
+    if table::is_d2(after) {
+        return !table::is_d2(before);
     }
-    table::is_d2(after)
+    false
 }
 
 // The jobs of every LO task are discarded, and counted. n tasks are in use.
@@ -235,27 +232,29 @@ fn some_waits(n: usize, waiting: &[u8; TASKS]) -> bool
     false
 }
 
-// Step 3: the mode after it.
+fn is_n(m: Mode) -> bool
+    ensures { λ r. ⌜ r ≡ isN m ⌝ }
+{
+    match m {
+        Mode::N => true,
+        Mode::D1 => false,
+        Mode::D2 => false,
+    }
+}
+
+// Step 3: the mode after it. In N there is nothing to ask.
 fn settled_mode(h: Head, waiting: &[u8; TASKS]) -> Mode
     requires { ⌜ h .ntasks ≤ 64 ⌝ }
     ensures { λ r. ⌜ SettlesMode h (now (waiting .entry)) r ⌝ }
 {
     let m = h.mode;
-    match m {
-        Mode::N => Mode::N,
-        Mode::D1 => {
-            if some_waits(h.ntasks, waiting) {
-                return Mode::D1;
-            }
-            Mode::N
-        }
-        Mode::D2 => {
-            if some_waits(h.ntasks, waiting) {
-                return Mode::D2;
-            }
-            Mode::N
-        }
+    if is_n(m) {
+        return m;
     }
+    if some_waits(h.ntasks, waiting) {
+        return m;
+    }
+    Mode::N
 }
 
 // What is left of a count, its server's period being over or not.
@@ -298,7 +297,7 @@ pub(crate) fn settle(
     runs: &mut [u32; TASKS],
     mark: bool,
 ) -> Settling
-    requires { ⌜ Few h × RanJob h (h .last) (now waiting) ⌝ }
+    requires { ⌜ Few h × RanJob h (now waiting) ⌝ }
     ensures { λ r.
         ⌜ Settles h (now (servers .entry)) (now (tasks .entry)) mark
         (now (used .entry)) (now (elapsed .entry)) (now (waiting .entry)) (now (runs .entry))

@@ -17,11 +17,8 @@ use Rattle.table.specs.Rules.{tableKeeps}
 use Rattle.table.specs.Inner.{Sized}
 use Rattle.table.proofs.Rules.{TableRules, table-rules}
 use Rattle.run.specs.declared.Answer.the-variants.{Released, Ticked}
-use Rattle.run.specs.declared.Answered.{Answered}
 use Rattle.run.specs.declared.Event.{Event}
 use Rattle.run.specs.declared.Event.the-variants.{Release, Tick}
-use Rattle.run.specs.declared.Last.{Last}
-use Rattle.run.specs.declared.Last.the-variants.{NoJob, Job}
 use Rattle.run.specs.declared.Left.{Left}
 use Rattle.run.specs.declared.Run.{Run}
 use Rattle.run.specs.declared.Starting.the-variants.{Started, Refused}
@@ -36,7 +33,7 @@ use Rattle.run.specs.Events.{eventOf}
 use Rattle.run.specs.Release.{refused, freshRun, startOf, withJob, releaseOf}
 use Rattle.run.specs.Tick.{settle, choose, advance, tickTaken, ranJob, tickOf}
 use Rattle.run.proofs.Shape.{Shaped}
-use Rattle.run.proofs.Sound.{StateSound, LastSound, sound-table, sound-state}
+use Rattle.run.proofs.Sound.{StateSound, sound-table, sound-state}
 use Rattle.run.proofs.Steps.{settled-row}
 use Rattle.run.proofs.Tick.{one-same, charged-able, able-room, ran-front, elapsed-settled}
 use Rattle.scheduler.specs.declared.parts.Head.{Head}
@@ -45,6 +42,7 @@ use Rattle.scheduler.specs.Inner.Parts.{stateOf, runOf, headOf, atMode}
 use Rattle.scheduler.specs.Inner.Columns.{serverCells, taskCells, OnSheet}
 use Rattle.scheduler.specs.Inner.Steps.{Shows, Few, RanJob, SettledSo, ServerIn, TaskIn, ChargeFits, RunFits, CountsFit}
 use Rattle.scheduler.specs.Inner.Events.{SoundRun}
+use Rattle.scheduler.proofs.Inner.Parts.{parts-are}
 
 -- a start
 pub start-taken : (t : Table) → tableKeeps t ≡ true → record { answer = Started; run = freshRun t } ≡ startOf t
@@ -152,18 +150,12 @@ sound-run t s h ss ks q e l p g =
             servers = λ c i b d. p .1 c i b (omega (arith, r .servers-high));
             tasks = λ c i b d. g .1 c i b (omega (arith, r .tasks-high));
           };
-      sound = rw q e;
+      sound = rw (parts-are t s h q) e;
       used-long = l .used;
       elapsed-long = l .elapsed;
       waiting-long = l .waiting;
       runs-long = l .runs;
     }
-
--- What a step says of the parts of a run, it says of the run.
-module _ (t : Table) (s : State) (h : Head) (q : h ≡ headOf t s) where
-  pub whole-answer : (f : Run → Answered) (a : Answered) →
-      a ≡ f (runOf t h (s .used) (s .elapsed) (s .waiting) (s .runs)) → a ≡ f (record { table = t; state = s })
-  whole-answer f a e = rw q at e
 
 -- What such a run says of its parts.
 module _ (t : Table) (h : Head) (ss ks u e w c : List ℕ) (p : SoundRun t h ss ks u e w c) where
@@ -184,16 +176,10 @@ module _ (t : Table) (h : Head) (ss ks u e w c : List ℕ) (p : SoundRun t h ss 
         tasks = omega (arith, n .tasks, rules .tasks-high);
       }
 
-  last-ran : (l : Last) → LastSound t (stateOf h u e w c) l → RanJob h l w
-  last-ran NoJob q = tt
-  last-ran (Job k) q = (
-    omega (arith, q .below, p .shows .counts .tasks),
-    omega (arith, q .below, rules .tasks-high),
-    q .waits,
-  )
-
-  pub ran-job : RanJob h (h .last) w
-  ran-job = last-ran (h .last) (facts .last)
+  pub ran-job : RanJob h w
+  ran-job r =
+      let q = rw r at (facts .last) in
+      (omega (arith, q .below, p .shows .counts .tasks), q .waits)
 
   pub shows-at : (m : Mode) → Shows t (atMode h m) ss ks
   shows-at m =

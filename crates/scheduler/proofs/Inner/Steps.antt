@@ -23,7 +23,6 @@ use Rattle.table.specs.declared.Table.{Table}
 use Rattle.table.specs.declared.Task.{Task}
 use Rattle.table.specs.Rows.{periodAt, taskAt, inMode, isLow}
 use Rattle.run.specs.declared.Judged.{Judged}
-use Rattle.run.specs.declared.Last.the-variants.{NoJob, Job}
 use Rattle.run.specs.declared.Left.{Left}
 use Rattle.run.specs.declared.Left.the-variants.{Nobody, Done, Cut}
 use Rattle.run.specs.declared.State.{State}
@@ -35,8 +34,8 @@ use Rattle.run.specs.Tick.{judge, onward, atLimit, step1, enters, drops, discar
 use Rattle.run.proofs.Tick.{one-same}
 use Rattle.run.proofs.Steps.{same-or-not, one-past}
 use Rattle.scheduler.specs.declared.parts.Head.{Head}
-use Rattle.scheduler.specs.Inner.Parts.{stateOf, atMode}
-use Rattle.scheduler.specs.Inner.Steps.{keptOf, goneOf, Discards, waitsAt, SettlesMode, Refills, Charges, afterRun, later, RunsFront, Ages}
+use Rattle.scheduler.specs.Inner.Parts.{lastIn, stateOf, atMode}
+use Rattle.scheduler.specs.Inner.Steps.{keptOf, goneOf, Discards, waitsAt, isN, SettlesMode, Refills, Charges, afterRun, later, RunsFront, Ages}
 use Rattle.scheduler.proofs.Inner.Columns.{low-on, period-on}
 
 -- Step 1: a job is judged at its mode's limit, then at the next.
@@ -94,28 +93,30 @@ unfolding judge
 thrice-d2 k c = refl
 
 module _ (t : Table) (h : Head) (u e w c : List ℕ) (mark : Bool) where
-  pub no-job : h .last ≡ NoJob →
-      step1 t (stateOf h u e w c) mark (h .last) ≡ record { state = stateOf h u e w c; left = Nobody }
+  abbrev Left-so : List ℕ → List ℕ → Mode → Left → Type 0
+  Left-so w′ c′ m l =
+      step1 t (stateOf h u e w c) mark (lastIn (h .ran) (h .task))
+      ≡ record { state = stateOf (atMode h m) u e w′ c′; left = l }
+
+  pub no-job : h .ran ≡ false → Left-so w c (h .mode) Nobody
   unfolding step1
   no-job q = rw q
 
-  module _ (k : ℕ) (q : h .last ≡ Job k) where
-    pub done : mark ≡ true →
-        step1 t (stateOf h u e w c) mark (h .last)
-        ≡ record { state = stateOf h u e (set w k (getD w k 0 - 1)) (set c k 0); left = Done k }
+  module _ (q : h .ran ≡ true) where
+    abbrev Leaves : Mode → Left → Type 0
+    Leaves = Left-so (set w (h .task) (getD w (h .task) 0 - 1)) (set c (h .task) 0)
+
+    pub done : mark ≡ true → Leaves (h .mode) (Done (h .task))
     unfolding step1
     done m = rw (q, m)
 
-    module _ (m : mark ≡ false) (j : Judged) (p : j ≡ judge 3 (taskAt t k) (getD c k 0) (h .mode)) where
-      pub cut : j .cut ≡ true →
-          step1 t (stateOf h u e w c) mark (h .last)
-          ≡ record { state = stateOf (atMode h (j .mode)) u e (set w k (getD w k 0 - 1)) (set c k 0); left = Cut k }
+    module _ (m : mark ≡ false) (j : Judged)
+        (p : j ≡ judge 3 (taskAt t (h .task)) (getD c (h .task) 0) (h .mode)) where
+      pub cut : j .cut ≡ true → Leaves (j .mode) (Cut (h .task))
       unfolding step1
       cut f = rw (q, m, ← p, f)
 
-      pub stays : j .cut ≡ false →
-          step1 t (stateOf h u e w c) mark (h .last)
-          ≡ record { state = stateOf (atMode h (j .mode)) u e w c; left = Nobody }
+      pub stays : j .cut ≡ false → Left-so w c (j .mode) Nobody
       unfolding step1
       stays f = rw (q, m, ← p, f)
 
@@ -177,6 +178,16 @@ mode-is h w m q t u e c n = rw (q, n) (go (anyBelow (t .ntasks) (waitsAt w)))
         ≡ stateOf (atMode h (if b then h .mode else N)) u e w c
     go true = refl
     go false = refl
+
+-- in N there is nothing to ask
+in-n : (m : Mode) → isN m ≡ true → (b : Bool) → m ≡ (if b then m else N)
+in-n N e true = refl
+in-n N e false = refl
+in-n D1 e b = cc
+in-n D2 e b = cc
+
+pub mode-in-n : (h : Head) (w : List ℕ) → isN (h .mode) ≡ true → SettlesMode h w (h .mode)
+mode-in-n h w e = mode-is h w (h .mode) (in-n (h .mode) e (anyBelow (h .ntasks) (waitsAt w)))
 
 -- Step 4: a row is refilled exactly if its elapsed count, as it was, equals its period.
 abbrev pub refilled : List ℕ → List ℕ → ℕ → ℕ → ℕ

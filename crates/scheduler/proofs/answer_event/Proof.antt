@@ -1,14 +1,15 @@
 -- `scheduler::answer_event` meets its contract: 13 is decided first, and a sound state goes to the steps
 -- behind the door. Assumes nothing.
 use mathlib.Core.Bool.{true}
-use mathlib.Core.Path.{_≡_, sym, _∙_}
+use mathlib.Core.Path.{_≡_, sym, ap, _∙_}
 use borrow.Author.Tests.{not-true, not-false}
 use borrow.Author.Needs.{needs}
 use Rattle.run.specs.Sound.{sound}
 use Rattle.run.specs.Events.{eventOf}
 use Rattle.run.proofs.Shape.{Shaped}
 use Rattle.scheduler.specs.Inner.Events.{SoundRun}
-use Rattle.scheduler.proofs.Inner.Events.{event-unsound, sound-run, whole-answer}
+use Rattle.scheduler.proofs.Inner.Parts.{parts-are}
+use Rattle.scheduler.proofs.Inner.Events.{event-unsound, sound-run}
 use Rattle.scheduler.proofs.answer_event.Statement.{statement}
 use Rattle.scheduler.proofs.answer_event.Tie as tie
 
@@ -38,28 +39,13 @@ taken c =
     sound-run (r .table) (r .state) _ _ _ (h .head-of .ensures) (is-sound (h .before)) (shaped (entry h))
     (c .before .server-sheet .ensures) (c .task-sheet .ensures)
 
-run-sound-requires : tie.Need-run-sound-requires
-run-sound-requires c κs = search needs
-
 returns : tie.Need-returns
 returns c =
     let s = c .before .before .before .before in
     event-unsound (s .args .r) (s .args .e) (sym (c .before .run-sound .ensures) ∙ not-true _ (c .if1 .taken))
 
-head-of-requires : tie.Need-head-of-requires
-head-of-requires c κs = search needs
-
-server-sheet-requires : tie.Need-server-sheet-requires
-server-sheet-requires c κs = search needs
-
-task-sheet-requires : tie.Need-task-sheet-requires
-task-sheet-requires c κs = search needs
-
 event-in-requires : tie.Need-event-in-requires
 event-in-requires c κs = (entry (headed (sheets c)) .args .r .table, taken (sheets c))
-
-run-of-requires : tie.Need-run-of-requires
-run-of-requires c κs = search needs
 
 returns-2 : tie.Need-returns-2
 returns-2 c =
@@ -68,11 +54,11 @@ returns-2 c =
     let h = headed k in
     let a = entry h .args in
     rw (c .run-of .ensures)
-    (whole-answer (a .r .table) (a .r .state) _ (h .head-of .ensures) (λ x. eventOf x (a .e)) _
-    (d .event-in .ensures (a .r .table) (taken k) .says))
+    (d .event-in .ensures (a .r .table) (taken k) .says
+    ∙ ap (λ x. eventOf x (a .e)) (parts-are (a .r .table) (a .r .state) _ (h .head-of .ensures)))
 
 pub answer-event-spec : {M : Type 1} → statement M
 answer-event-spec =
     tie.close
-    (tie.spec run-sound-requires returns head-of-requires server-sheet-requires task-sheet-requires
-    event-in-requires run-of-requires returns-2)
+    (tie.spec (λ c κs. tt) returns (λ c κs. tt) (λ c κs. tt) (λ c κs. tt) event-in-requires
+    (λ c κs. tt) returns-2)

@@ -1,14 +1,27 @@
 -- A run in parts: its table, its head and the counts of its rows.
+use mathlib.Core.Bool.{Bool}
 use mathlib.Core.Path.{_≡_}
 use mathlib.Core.List.{List}
 use Prim.Native.Nat.{ℕ}
+use Rattle.laws.specs.Choice.{if_then_else_}
 use Rattle.table.specs.declared.Mode.{Mode}
 use Rattle.table.specs.declared.Table.{Table}
+use Rattle.run.specs.declared.Last.{Last}
+use Rattle.run.specs.declared.Last.the-variants.{NoJob, Job}
 use Rattle.run.specs.declared.State.{State}
 use Rattle.run.specs.declared.Run.{Run}
 use Rattle.run.specs.declared.Answered.{Answered}
+use Rattle.run.specs.Tick.{ranJob}
 use Rattle.scheduler.specs.declared.parts.Head.{Head}
 use Rattle.scheduler.specs.declared.parts.Step.{Step}
+
+-- The last job, as a head shows it: whether one ran, and of which task, 0 if none.
+abbrev pub lastIn : Bool → ℕ → Last
+lastIn ran k = if ran then Job k else NoJob
+
+abbrev pub lastTask : Last → ℕ
+lastTask NoJob = 0
+lastTask (Job k) = k
 
 abbrev pub stateOf : Head → List ℕ → List ℕ → List ℕ → List ℕ → State
 stateOf h used elapsed waiting runs =
@@ -18,7 +31,7 @@ stateOf h used elapsed waiting runs =
       elapsed = elapsed;
       waiting = waiting;
       runs = runs;
-      last = h .last;
+      last = lastIn (h .ran) (h .task);
       ticks = h .ticks;
       accepted = h .accepted;
     }
@@ -31,8 +44,9 @@ headOf t s =
     record {
       nservers = t .nservers;
       ntasks = t .ntasks;
+      task = lastTask (s .last);
       mode = s .mode;
-      last = s .last;
+      ran = ranJob (s .last);
       ticks = s .ticks;
       accepted = s .accepted;
     }
@@ -42,8 +56,9 @@ atMode h m =
     record {
       nservers = h .nservers;
       ntasks = h .ntasks;
+      task = h .task;
       mode = m;
-      last = h .last;
+      ran = h .ran;
       ticks = h .ticks;
       accepted = h .accepted;
     }

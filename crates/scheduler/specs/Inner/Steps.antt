@@ -2,7 +2,7 @@
 -- makes the parts after it, marked by a prime, of those before it, whatever else the run holds: for
 -- every table whose rows stand in the sheets.
 use mathlib.Core.Path.{_≡_}
-use mathlib.Core.Bool.{Bool, true}
+use mathlib.Core.Bool.{Bool, true, false}
 use mathlib.Core.List.{List}
 use Prim.Native.Nat.{ℕ, _+_, _≤_, _<_}
 use lib.Dec.{ltb, eqb}
@@ -12,21 +12,19 @@ use Rattle.laws.specs.Rows.{sumBelow}
 use Rattle.table.specs.declared.ByMode.{ByMode}
 use Rattle.table.specs.declared.Level.{Level}
 use Rattle.table.specs.declared.Mode.{Mode}
-use Rattle.table.specs.declared.Mode.the-variants.{D2}
+use Rattle.table.specs.declared.Mode.the-variants.{N, D1, D2}
 use Rattle.table.specs.declared.Table.{Table}
 use Rattle.table.specs.declared.Task.{Task}
 use Rattle.table.specs.Rules.{tableKeeps}
 use Rattle.table.specs.Inner.{Sized}
 use Rattle.run.specs.declared.Judged.{Judged}
-use Rattle.run.specs.declared.Last.{Last}
-use Rattle.run.specs.declared.Last.the-variants.{NoJob, Job}
 use Rattle.run.specs.declared.Turn.{Turn}
 use Rattle.run.specs.declared.Turn.the-variants.{Run as Ran, Empty, Idle}
-use Rattle.run.specs.Tick.{judge, step1, step2, discards, step3, step4, settle, step5, step6, step7, advance, lastOf}
+use Rattle.run.specs.Tick.{judge, step1, step2, discards, step3, step4, settle, step5, step6, step7, advance, lastOf, ranJob}
 use Rattle.scheduler.specs.declared.parts.Head.{Head}
 use Rattle.scheduler.specs.declared.settle.Risen.{Risen}
 use Rattle.scheduler.specs.declared.settle.Settling.{Settling}
-use Rattle.scheduler.specs.Inner.Parts.{stateOf, atMode, Counts}
+use Rattle.scheduler.specs.Inner.Parts.{lastTask, lastIn, stateOf, atMode, Counts}
 use Rattle.scheduler.specs.Inner.Columns.{ServersOn, TasksOn}
 
 -- What the head and the sheets show of a table that keeps the rules.
@@ -53,15 +51,14 @@ Judges n x l c m r = (k : Task) → k .limit ≡ x → k .level ≡ l → r ≡ 
 abbrev pub JudgesInD2 : ByMode → ℕ → Judged → Type 0
 JudgesInD2 x c r = (l : Level) → Judges 1 x l c D2 r
 
--- the last-run task has a waiting job
-abbrev pub RanJob : Head → Last → List ℕ → Type 0
-RanJob h NoJob w = Unit {0}
-RanJob h (Job k) w = (k < h .ntasks) × (k < 64) × (0 < getD w k 0)
+-- the last-run task, if any, has a waiting job
+abbrev pub RanJob : Head → List ℕ → Type 0
+RanJob h w = h .ran ≡ true → (h .task < h .ntasks) × (0 < getD w (h .task) 0)
 
 abbrev pub Marks : Head → List ℕ → Bool → List ℕ → List ℕ → List ℕ → List ℕ → Risen → Type 0
 Marks h tasks mark w c w′ c′ r =
     (t : Table) (u e : List ℕ) → TasksOn t tasks → h .ntasks ≡ t .ntasks →
-    step1 t (stateOf h u e w c) mark (h .last)
+    step1 t (stateOf h u e w c) mark (lastIn (h .ran) (h .task))
     ≡ record { state = stateOf (atMode h (r .mode)) u e w′ c′; left = r .left }
 
 -- Step 2. On entering D2: what is left of a count of task k, and what is gone, by its level.
@@ -80,6 +77,11 @@ Discards h before tasks w c w′ c′ r =
 -- Step 3.
 abbrev pub waitsAt : List ℕ → ℕ → Bool
 waitsAt w k = ltb 0 (getD w k 0)
+
+abbrev pub isN : Mode → Bool
+isN N = true
+isN D1 = false
+isN D2 = false
 
 abbrev pub SettlesMode : Head → List ℕ → Mode → Type 0
 SettlesMode h w m′ =
@@ -136,8 +138,9 @@ afterRun h turn =
     record {
       nservers = h .nservers;
       ntasks = h .ntasks;
+      task = lastTask (lastOf turn);
       mode = h .mode;
-      last = lastOf turn;
+      ran = ranJob (lastOf turn);
       ticks = h .ticks;
       accepted = h .accepted;
     }
@@ -147,8 +150,9 @@ later h =
     record {
       nservers = h .nservers;
       ntasks = h .ntasks;
+      task = h .task;
       mode = h .mode;
-      last = h .last;
+      ran = h .ran;
       ticks = record { 0 = h .ticks .0 + 1 };
       accepted = h .accepted;
     }

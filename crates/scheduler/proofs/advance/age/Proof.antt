@@ -18,12 +18,6 @@ abbrev μ-loop : tie.MeasureT-loop
 loop-holds : tie.Need-loop-holds Inv-loop μ-loop
 loop-holds c = (omega arith, anew-none _ _)
 
-mul-elapsed : tie.Need-mul-elapsed Inv-loop μ-loop
-mul-elapsed c = omega arith
-
-element-copy-out-elapsed : tie.Need-element-copy-out-elapsed Inv-loop μ-loop
-element-copy-out-elapsed c = omega arith
-
 add-elapsed : tie.Need-add-elapsed Inv-loop μ-loop
 add-elapsed c =
     let l = c .before .before .loop in
@@ -32,18 +26,6 @@ add-elapsed c =
       anew-row (λ j e. e + 1) (c .before .before .before .args .elapsed .now) (l .elapsed) (l .i) 0 (l .inv .1),
       c .before .before .before .pre .1 (l .i) (c .before .loop-test .taken),
     )
-
-mul-elapsed-2 : tie.Need-mul-elapsed-2 Inv-loop μ-loop
-mul-elapsed-2 c = omega arith
-
-element-write-elapsed : tie.Need-element-write-elapsed Inv-loop μ-loop
-element-write-elapsed c = omega arith
-
-add-i : tie.Need-add-i Inv-loop μ-loop
-add-i c = omega arith
-
-loop-less : tie.Need-loop-less Inv-loop μ-loop
-loop-less c = omega arith
 
 loop-again : tie.Need-loop-again Inv-loop μ-loop
 loop-again c =
@@ -61,5 +43,5 @@ returns c =
 pub age-spec : {M : Type 1} → statement M
 age-spec =
     tie.close
-    (tie.spec Inv-loop μ-loop loop-holds mul-elapsed element-copy-out-elapsed add-elapsed
-    mul-elapsed-2 element-write-elapsed add-i loop-less loop-again returns)
+    (tie.spec Inv-loop μ-loop loop-holds (λ c. omega arith) (λ c. omega arith) add-elapsed
+    (λ c. omega arith) (λ c. omega arith) (λ c. omega arith) (λ c. omega arith) loop-again returns)

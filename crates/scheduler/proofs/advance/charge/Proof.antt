@@ -12,20 +12,11 @@ run-fits c = rw (c .turn .given .1) at (c .before .before .pre)
 empty-fits : (c : tie.After-turn2) → ChargeFits (Empty (c .turn2 .given .0 .0)) (c .before .before .args .used .now)
 empty-fits c = rw (c .turn2 .given .1) at (c .before .before .pre)
 
-enum-known-turn : tie.Need-enum-known-turn
-enum-known-turn c = search needs
-
 add-used-requires : tie.Need-add-used-requires
 add-used-requires c κs = run-fits (c .before .before)
 
-enum-known-turn-2 : tie.Need-enum-known-turn-2
-enum-known-turn-2 c = search needs
-
 add-used-requires-2 : tie.Need-add-used-requires-2
 add-used-requires-2 c κs = empty-fits (c .before .before)
-
-enum-told : tie.Need-enum-told
-enum-told c = search needs
 
 returns : tie.Need-returns
 returns c =
@@ -41,5 +32,5 @@ returns-3 c = rw (c .enum-told .given .1) (charges-idle _)
 pub charge-spec : {M : Type 1} → statement M
 charge-spec =
     tie.close
-    (tie.spec enum-known-turn add-used-requires enum-known-turn-2 add-used-requires-2 enum-told
-    returns returns-2 returns-3)
+    (tie.spec (λ c. search needs) add-used-requires (λ c. search needs) add-used-requires-2
+    (λ c. search needs) returns returns-2 returns-3)

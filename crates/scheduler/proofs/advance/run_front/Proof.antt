@@ -9,17 +9,8 @@ use Rattle.scheduler.proofs.advance.run_front.Tie as tie
 run-fits : (c : tie.After-turn) → RunFits (Ran (c .turn .given .0 .0) (c .turn .given .0 .1 .0)) (c .before .before .args .runs .now)
 run-fits c = rw (c .turn .given .1) at (c .before .before .pre)
 
-enum-known-turn : tie.Need-enum-known-turn
-enum-known-turn c = search needs
-
 add-run-requires : tie.Need-add-run-requires
 add-run-requires c κs = run-fits (c .before .before)
-
-enum-told : tie.Need-enum-told
-enum-told c = search needs
-
-enum-told-2 : tie.Need-enum-told-2
-enum-told-2 c = search needs
 
 returns : tie.Need-returns
 returns c =
@@ -35,4 +26,5 @@ returns-3 c = rw (c .enum-told2 .given .1) (runs-idle _)
 pub run-front-spec : {M : Type 1} → statement M
 run-front-spec =
     tie.close
-    (tie.spec enum-known-turn add-run-requires enum-told enum-told-2 returns returns-2 returns-3)
+    (tie.spec (λ c. search needs) add-run-requires (λ c. search needs) (λ c. search needs) returns
+    returns-2 returns-3)

@@ -5,7 +5,6 @@ use mathlib.Core.List.{List}
 use Prim.Native.Nat.{ℕ, _<_}
 use native.Mathlib.Omega.{arith}
 use lib.ListN.{getD}
-use borrow.Author.Needs.{needs}
 use Rattle.table.proofs.Rules.{TableRules, table-rules}
 use Rattle.table.specs.declared.Table.{Table}
 use Rattle.run.specs.Tick.{highestAble, highestTask}
@@ -104,9 +103,6 @@ array-read-turn-of c = row-low c
 array-read-turn-of-2 : tie.Need-array-read-turn-of-2
 array-read-turn-of-2 c = row-low c
 
-turn-of-requires : tie.Need-turn-of-requires
-turn-of-requires c κs = search needs
-
 returns-2 : tie.Need-returns-2
 returns-2 c =
     λ t e x p.
@@ -120,4 +116,4 @@ pub choose-turn-spec : {M : Type 1} → statement M
 choose-turn-spec =
     tie.close
     (tie.spec find-tops-requires find-able-requires returns mul-turn-of array-read-turn-of
-    array-read-turn-of-2 turn-of-requires returns-2)
+    array-read-turn-of-2 (λ c κs. tt) returns-2)

@@ -31,9 +31,6 @@ Inv-loop servers used height column best₀ high₀ i₀ i-end best high i =
 abbrev μ-loop : tie.MeasureT-loop
 μ-loop servers used height column best₀ high₀ i₀ i-end best high i = i-end - i
 
-capacity-column-requires : tie.Need-capacity-column-requires Inv-loop μ-loop
-capacity-column-requires c κs = tt
-
 loop-holds : tie.Need-loop-holds Inv-loop μ-loop
 loop-holds c = (omega arith, λ t h e w x q on n g f. top-none _ _ 0)
 
@@ -49,27 +46,6 @@ server-cell-requires-3 : tie.Need-server-cell-requires-3 Inv-loop μ-loop
 server-cell-requires-3 c κs =
     let l = c .before .before .before in
     omega (arith, l .loop-test .taken, l .before .before .before .pre)
-
-mul-is-able : tie.Need-mul-is-able Inv-loop μ-loop
-mul-is-able c = omega arith
-
-element-copy-out-is-able : tie.Need-element-copy-out-is-able Inv-loop μ-loop
-element-copy-out-is-able c = omega arith
-
-mul-is-able-2 : tie.Need-mul-is-able-2 Inv-loop μ-loop
-mul-is-able-2 c = omega arith
-
-element-copy-out-is-able-2 : tie.Need-element-copy-out-is-able-2 Inv-loop μ-loop
-element-copy-out-is-able-2 c = omega arith
-
-is-able-requires : tie.Need-is-able-requires Inv-loop μ-loop
-is-able-requires c κs = tt
-
-add-i : tie.Need-add-i Inv-loop μ-loop
-add-i c = omega arith
-
-loop-less : tie.Need-loop-less Inv-loop μ-loop
-loop-less c = omega arith
 
 loop-again : tie.Need-loop-again Inv-loop μ-loop
 loop-again c =
@@ -125,6 +101,6 @@ returns c =
 pub find-able-spec : {M : Type 1} → statement M
 find-able-spec =
     tie.close
-    (tie.spec Inv-loop μ-loop capacity-column-requires loop-holds server-cell-requires
-    server-cell-requires-2 server-cell-requires-3 mul-is-able element-copy-out-is-able mul-is-able-2
-    element-copy-out-is-able-2 is-able-requires add-i loop-less loop-again returns)
+    (tie.spec Inv-loop μ-loop (λ c κs. tt) loop-holds server-cell-requires server-cell-requires-2
+    server-cell-requires-3 (λ c. omega arith) (λ c. omega arith) (λ c. omega arith)
+    (λ c. omega arith) (λ c κs. tt) (λ c. omega arith) (λ c. omega arith) loop-again returns)

@@ -37,9 +37,6 @@ owner-low c =
       o .before .pre .0 .owner (l .loop .k) (c .before .loop-test .taken),
     )
 
-owner-column-requires : tie.Need-owner-column-requires Inv-loop μ-loop
-owner-column-requires c κs = tt
-
 loop-holds : tie.Need-loop-holds Inv-loop μ-loop
 loop-holds c =
     let p = c .before .pre in (
@@ -54,43 +51,19 @@ task-cell-requires c κs =
     let o = c .before .before in
     omega (arith, c .loop-test .taken, o .owner-column .ensures .1, o .before .pre .0 .few)
 
-cast-o : tie.Need-cast-o Inv-loop μ-loop
-cast-o c = omega arith
-
 task-cell-requires-2 : tie.Need-task-cell-requires-2 Inv-loop μ-loop
 task-cell-requires-2 c κs =
     let o = c .before .before .before in
     omega (arith, c .before .loop-test .taken, o .before .pre .0 .few)
 
-element-copy-out-is-higher : tie.Need-element-copy-out-is-higher Inv-loop μ-loop
-element-copy-out-is-higher c = omega arith
-
-mul-is-higher : tie.Need-mul-is-higher Inv-loop μ-loop
-mul-is-higher c = omega arith
-
 element-copy-out-is-higher-2 : tie.Need-element-copy-out-is-higher-2 Inv-loop μ-loop
 element-copy-out-is-higher-2 c = owner-low (c .before .before)
-
-is-higher-requires : tie.Need-is-higher-requires Inv-loop μ-loop
-is-higher-requires c κs = tt
-
-mul-height : tie.Need-mul-height Inv-loop μ-loop
-mul-height c = omega arith
 
 element-write-height : tie.Need-element-write-height Inv-loop μ-loop
 element-write-height c = owner-low (c .before .before .before .before .before)
 
-cast-top : tie.Need-cast-top Inv-loop μ-loop
-cast-top c = omega arith
-
 element-write-top : tie.Need-element-write-top Inv-loop μ-loop
 element-write-top c = owner-low (c .before .before .before .before .before)
-
-add-k : tie.Need-add-k Inv-loop μ-loop
-add-k c = omega arith
-
-loop-less : tie.Need-loop-less Inv-loop μ-loop
-loop-less c = omega arith
 
 loop-again : tie.Need-loop-again Inv-loop μ-loop
 loop-again c =
@@ -141,7 +114,7 @@ returns c =
 pub find-tops-spec : {M : Type 1} → statement M
 find-tops-spec =
     tie.close
-    (tie.spec Inv-loop μ-loop owner-column-requires loop-holds task-cell-requires cast-o
-    task-cell-requires-2 element-copy-out-is-higher mul-is-higher element-copy-out-is-higher-2
-    is-higher-requires mul-height element-write-height cast-top element-write-top add-k loop-less
-    loop-again returns)
+    (tie.spec Inv-loop μ-loop (λ c κs. tt) loop-holds task-cell-requires (λ c. omega arith)
+    task-cell-requires-2 (λ c. omega arith) (λ c. omega arith) element-copy-out-is-higher-2
+    (λ c κs. tt) (λ c. omega arith) element-write-height (λ c. omega arith) element-write-top
+    (λ c. omega arith) (λ c. omega arith) loop-again returns)

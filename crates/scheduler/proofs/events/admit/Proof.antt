@@ -21,9 +21,6 @@ level-taken : (c : tie.Else1) (t : Table) → taskAt t (c .before .before .args 
     (isD2 (c .before .before .args .h .mode) && isLow (taskAt t (c .before .before .args .task) .level)) ≡ false
 level-taken c t q = rw q (sym (c .before .low-in-d2 .ensures) ∙ c .if1 .left)
 
-low-in-d2-requires : tie.Need-low-in-d2-requires
-low-in-d2-requires c κs = search needs
-
 returns : tie.Need-returns
 returns c =
     let s = c .before .before in
@@ -34,9 +31,6 @@ returns c =
           release-low (whole s t u e x) (s .args .task) g there
           (rw q (sym (c .before .low-in-d2 .ensures) ∙ c .if1 .taken));
     }
-
-element-copy-out-if2 : tie.Need-element-copy-out-if2
-element-copy-out-if2 c = search needs
 
 returns-2 : tie.Need-returns-2
 returns-2 c =
@@ -59,18 +53,6 @@ returns-3 c =
       says = release-spent (whole s t u e x) (s .args .task) g there (level-taken d t q) (f .if2 .left) (c .if3 .taken);
     }
 
-element-copy-out-waiting : tie.Need-element-copy-out-waiting
-element-copy-out-waiting c = search needs
-
-add-waiting : tie.Need-add-waiting
-add-waiting c = search needs
-
-element-write-waiting : tie.Need-element-write-waiting
-element-write-waiting c = search needs
-
-add-accepted : tie.Need-add-accepted
-add-accepted c = search needs
-
 returns-4 : tie.Need-returns-4
 returns-4 c =
     let a = c .before .before .before in
@@ -86,5 +68,5 @@ returns-4 c =
 pub admit-spec : {M : Type 1} → statement M
 admit-spec =
     tie.close
-    (tie.spec low-in-d2-requires returns element-copy-out-if2 returns-2 returns-3
-    element-copy-out-waiting add-waiting element-write-waiting add-accepted returns-4)
+    (tie.spec (λ c κs. tt) returns (λ c. search needs) returns-2 returns-3 (λ c. search needs)
+    (λ c. search needs) (λ c. search needs) (λ c. search needs) returns-4)

@@ -4,17 +4,8 @@ use Rattle.scheduler.proofs.Inner.Events.{few}
 use Rattle.scheduler.proofs.events.event_in.Statement.{statement}
 use Rattle.scheduler.proofs.events.event_in.Tie as tie
 
-enum-known-e : tie.Need-enum-known-e
-enum-known-e c = search needs
-
 release-in-requires : tie.Need-release-in-requires
 release-in-requires c κs = few _ _ _ _ _ _ _ _ (c .before .before .before .before .pre .1) .tasks
-
-enum-known-e-2 : tie.Need-enum-known-e-2
-enum-known-e-2 c = search needs
-
-tick-in-requires : tie.Need-tick-in-requires
-tick-in-requires c κs = search needs
 
 returns : tie.Need-returns
 returns c =
@@ -28,4 +19,5 @@ returns-2 c = λ t p. rw (c .before .before .before .before .before .before .e2 
 pub event-in-spec : {M : Type 1} → statement M
 event-in-spec =
     tie.close
-    (tie.spec enum-known-e release-in-requires enum-known-e-2 tick-in-requires returns returns-2)
+    (tie.spec (λ c. search needs) release-in-requires (λ c. search needs) (λ c κs. search needs)
+    returns returns-2)

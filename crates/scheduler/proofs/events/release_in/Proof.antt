@@ -2,7 +2,7 @@
 -- nothing.
 use mathlib.Core.Path.{sym, ap, _∙_}
 use Prim.Native.Nat.{_<_}
-use borrow.Author.Needs.{needs}
+use native.Mathlib.Omega.{arith}
 use Rattle.scheduler.specs.Inner.Columns.{levelIn}
 use Rattle.scheduler.specs.Inner.Parts.{runOf}
 use Rattle.scheduler.proofs.Inner.Events.{release-no-task}
@@ -19,15 +19,6 @@ returns c =
       says = release-no-task (runOf t (a .h) u e (a .waiting .now) x) (a .task) g (rw (← n .tasks) (c .if1 .taken));
     }
 
-task-cell-requires : tie.Need-task-cell-requires
-task-cell-requires c κs = search needs
-
-level-in-requires : tie.Need-level-in-requires
-level-in-requires c κs = search needs
-
-admit-requires : tie.Need-admit-requires
-admit-requires c κs = search needs
-
 returns-2 : tie.Need-returns-2
 returns-2 c =
     let d = c .before .before in
@@ -40,4 +31,4 @@ returns-2 c =
 
 pub release-in-spec : {M : Type 1} → statement M
 release-in-spec =
-    tie.close (tie.spec returns task-cell-requires level-in-requires admit-requires returns-2)
+    tie.close (tie.spec returns (λ c κs. omega arith) (λ c κs. tt) (λ c κs. omega arith) returns-2)

@@ -1,18 +1,18 @@
 -- `scheduler::events::tick_in` meets its contract: the steps that the calls make, put together, are
 -- a tick that is taken. Assumes nothing.
 use mathlib.Core.List.{List}
-use mathlib.Core.Bool.{true, not, _||_}
+use mathlib.Core.Bool.{not, _||_}
 use mathlib.Core.Path.{_≡_, sym, _∙_}
 use Prim.Native.Nat.{ℕ}
 use borrow.Author.Tests.{not-true, not-false}
-use borrow.Author.Needs.{needs}
 use Rattle.table.specs.declared.Table.{Table}
 use Rattle.run.specs.declared.State.{State}
 use Rattle.run.specs.declared.Run.{Run}
 use Rattle.run.specs.Tick.{ranJob, choose}
-use Rattle.scheduler.specs.Inner.Parts.{stateOf, runOf, atMode}
+use Rattle.scheduler.specs.Inner.Parts.{lastIn, stateOf, runOf, atMode}
 use Rattle.scheduler.specs.Inner.Steps.{SettledSo}
 use Rattle.scheduler.specs.Inner.Events.{SoundRun}
+use Rattle.scheduler.proofs.Inner.Parts.{ran-shown}
 use Rattle.scheduler.proofs.Inner.Events.{few, ran-job, shows-at, server-in, task-in, room, tick-no-job, tick-spent, tick-taken}
 use Rattle.scheduler.proofs.events.tick_in.Statement.{statement}
 use Rattle.scheduler.proofs.events.tick_in.Tie as tie
@@ -25,10 +25,13 @@ SoundAt c t =
     let a = c .args in
     SoundRun t (a .h) (a .servers .now) (a .tasks .now) (a .used .now) (a .elapsed .now) (a .waiting .now) (a .runs .now)
 
--- the mark may come
-may-come : (c : tie.Else1) →
-    (not (c .before .before .before .args .mark) || ranJob (c .before .before .before .args .h .last)) ≡ true
-may-come c = sym (c .before .mark-may-come .ensures) ∙ not-false _ (c .if1 .left)
+-- whether the mark may come, as the definition asks it
+asked : (c : tie.After-mark-may-come) →
+    let a = c .before .before .args in
+    (not (a .mark) || ranJob (lastIn (a .h .ran) (a .h .task))) ≡ c .mark-may-come .result
+asked c =
+    let h = c .before .before .args .h in
+    rw (ran-shown (h .ran) (h .task)) (sym (c .mark-may-come .ensures))
 
 -- places, from each to the one before it, and to the entry
 abbrev count-low : tie.After-settle → tie.Else2
@@ -65,9 +68,6 @@ module _ (c : tie.After-settle) where
 chosen : (c : tie.After-choose-turn) (t : Table) → SoundAt (entry (settling c)) t → c .choose-turn .result ≡ choose t (after (settling c))
 chosen c t p = c .choose-turn .ensures t (e′ (settling c)) (c′ (settling c)) (shows-at _ _ _ _ _ _ _ _ p _)
 
-mark-may-come-requires : tie.Need-mark-may-come-requires
-mark-may-come-requires c κs = search needs
-
 returns : tie.Need-returns
 returns c =
     let s = c .before .before .before in
@@ -76,7 +76,7 @@ returns c =
       counts = p .shows .counts;
       says =
           tick-no-job (whole s t) (s .args .mark) (p .sound)
-          (sym (c .before .mark-may-come .ensures) ∙ not-true _ (c .if1 .taken));
+          (asked (c .before) ∙ not-true _ (c .if1 .taken));
     }
 
 returns-2 : tie.Need-returns-2
@@ -86,7 +86,9 @@ returns-2 c =
     λ t p.
     record {
       counts = p .shows .counts;
-      says = tick-spent (whole s t) (s .args .mark) (p .sound) (may-come d) (c .if2 .taken);
+      says =
+          tick-spent (whole s t) (s .args .mark) (p .sound)
+          (asked (d .before) ∙ not-false _ (d .if1 .left)) (c .if2 .taken);
     }
 
 settle-requires : tie.Need-settle-requires
@@ -113,6 +115,7 @@ returns-3 c =
     let d = c .before .before .before .before in
     let z = settling d in
     let s = entry z in
+    let m = count-low z .before .before in
     let turn = d .choose-turn .result in
     λ t p.
     let g = settled z t p in
@@ -121,13 +124,15 @@ returns-3 c =
     record {
       counts = rw (c .advance .ensures .0) (record { servers = n .servers; tasks = n .tasks });
       says =
-          tick-taken (whole s t) (s .args .mark) (p .sound) (may-come (count-low z .before .before)) (count-low z .if2 .left)
-          (after z) _ (z .settle .result .left) (z .settle .result .discarded) turn (g .state) (g .left) (g .count) o
+          tick-taken (whole s t) (s .args .mark) (p .sound)
+          (asked (m .before) ∙ not-false _ (m .if1 .left)) (count-low z .if2 .left) (after z) _
+          (z .settle .result .left) (z .settle .result .discarded) turn (g .state) (g .left)
+          (g .count) o
           (c .advance .ensures .1 t (w′ z) (server-in t (after z) turn o) (task-in t (after z) turn o) (n .servers));
     }
 
 pub tick-in-spec : {M : Type 1} → statement M
 tick-in-spec =
     tie.close
-    (tie.spec mark-may-come-requires returns returns-2 settle-requires choose-turn-requires
-    advance-requires returns-3)
+    (tie.spec (λ c κs. tt) returns returns-2 settle-requires choose-turn-requires advance-requires
+    returns-3)

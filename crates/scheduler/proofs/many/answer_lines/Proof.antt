@@ -43,35 +43,11 @@ loop-holds : tie.Need-loop-holds Inv-loop μ-loop
 loop-holds c =
     (omega arith, omega arith, omega (arith, c .before .before .pre .0), refl, λ t p. (p, going-start _ _ _))
 
-mul-at : tie.Need-mul-at Inv-loop μ-loop
-mul-at c = omega arith
-
-mul-line-said : tie.Need-mul-line-said Inv-loop μ-loop
-mul-line-said c = omega arith
-
-shared-slice-read-line-said : tie.Need-shared-slice-read-line-said Inv-loop μ-loop
-shared-slice-read-line-said c = omega arith
-
-add-line-said : tie.Need-add-line-said Inv-loop μ-loop
-add-line-said c = omega arith
-
-mul-line-said-2 : tie.Need-mul-line-said-2 Inv-loop μ-loop
-mul-line-said-2 c = omega arith
-
-shared-slice-read-line-said-2 : tie.Need-shared-slice-read-line-said-2 Inv-loop μ-loop
-shared-slice-read-line-said-2 c = omega arith
-
-line-said-requires : tie.Need-line-said-requires Inv-loop μ-loop
-line-said-requires c κs = tt
-
 answer-line-requires : tie.Need-answer-line-requires Inv-loop μ-loop
 answer-line-requires c κs =
     let l = c .before .before .before .before .before .before .before .before in
     let p = l .before .before .before .pre .1 in
     (p .0, l .loop .inv .4 (p .0) (p .1) .0)
-
-told-values-requires : tie.Need-told-values-requires Inv-loop μ-loop
-told-values-requires c κs = tt
 
 mul-put-values : tie.Need-mul-put-values Inv-loop μ-loop
 mul-put-values c = omega (arith, small (inside (c .before .before)))
@@ -83,9 +59,6 @@ put-values-requires c κs =
 
 add-i : tie.Need-add-i Inv-loop μ-loop
 add-i c = omega (arith, small (inside (c .before .before .before .before .before)))
-
-loop-less : tie.Need-loop-less Inv-loop μ-loop
-loop-less c = omega arith
 
 loop-again : tie.Need-loop-again Inv-loop μ-loop
 loop-again c =
@@ -128,7 +101,7 @@ returns c =
 pub answer-lines-spec : {M : Type 1} → statement M
 answer-lines-spec =
     tie.close
-    (tie.spec Inv-loop μ-loop loop-holds mul-at mul-line-said shared-slice-read-line-said
-    add-line-said mul-line-said-2 shared-slice-read-line-said-2 line-said-requires
-    answer-line-requires told-values-requires mul-put-values put-values-requires add-i loop-less
-    loop-again same-length returns)
+    (tie.spec Inv-loop μ-loop loop-holds (λ c. omega arith) (λ c. omega arith) (λ c. omega arith)
+    (λ c. omega arith) (λ c. omega arith) (λ c. omega arith) (λ c κs. tt) answer-line-requires
+    (λ c κs. tt) mul-put-values put-values-requires add-i (λ c. omega arith) loop-again same-length
+    returns)

@@ -4,9 +4,6 @@ use Rattle.scheduler.proofs.Inner.Many.{release-said}
 use Rattle.scheduler.proofs.many.line_said.Statement.{statement}
 use Rattle.scheduler.proofs.many.line_said.Tie as tie
 
-returns : tie.Need-returns
-returns c = search needs
-
 returns-2 : tie.Need-returns-2
 returns-2 c = rw (c .if2 .taken)
 
@@ -14,4 +11,4 @@ returns-3 : tie.Need-returns-3
 returns-3 c = release-said (c .before .before .args .x) (c .before .before .args .v) (c .before .if1 .left) (c .if2 .left)
 
 pub line-said-spec : {M : Type 1} → statement M
-line-said-spec = tie.close (tie.spec returns returns-2 returns-3)
+line-said-spec = tie.close (tie.spec (λ c. search needs) returns-2 returns-3)

@@ -3,18 +3,6 @@ use borrow.Author.Needs.{needs}
 use Rattle.scheduler.proofs.many.told_of.Statement.{statement}
 use Rattle.scheduler.proofs.many.told_of.Tie as tie
 
-enum-known-a : tie.Need-enum-known-a
-enum-known-a c = search needs
-
-enum-known-a-2 : tie.Need-enum-known-a-2
-enum-known-a-2 c = search needs
-
-enum-known-a-3 : tie.Need-enum-known-a-3
-enum-known-a-3 c = search needs
-
-number-of-requires : tie.Need-number-of-requires
-number-of-requires c κs = search needs
-
 returns : tie.Need-returns
 returns c = rw (c .before .a .given .1)
 
@@ -27,5 +15,5 @@ returns-3 c = rw (c .before .before .a3 .given .1, c .number-of .ensures)
 pub told-of-spec : {M : Type 1} → statement M
 told-of-spec =
     tie.close
-    (tie.spec enum-known-a enum-known-a-2 enum-known-a-3 number-of-requires returns returns-2
-    returns-3)
+    (tie.spec (λ c. search needs) (λ c. search needs) (λ c. search needs) (λ c κs. tt) returns
+    returns-2 returns-3)

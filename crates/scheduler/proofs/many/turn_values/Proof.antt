@@ -3,18 +3,6 @@ use borrow.Author.Needs.{needs}
 use Rattle.scheduler.proofs.many.turn_values.Statement.{statement}
 use Rattle.scheduler.proofs.many.turn_values.Tie as tie
 
-enum-told : tie.Need-enum-told
-enum-told c = search needs
-
-enum-known-turn : tie.Need-enum-known-turn
-enum-known-turn c = search needs
-
-enum-known-turn-2 : tie.Need-enum-known-turn-2
-enum-known-turn-2 c = search needs
-
-returns : tie.Need-returns
-returns c = search needs
-
 returns-2 : tie.Need-returns-2
 returns-2 c = rw (c .before .turn .given .1)
 
@@ -23,4 +11,6 @@ returns-3 c = rw (c .before .turn2 .given .1)
 
 pub turn-values-spec : {M : Type 1} → statement M
 turn-values-spec =
-    tie.close (tie.spec enum-told enum-known-turn enum-known-turn-2 returns returns-2 returns-3)
+    tie.close
+    (tie.spec (λ c. search needs) (λ c. search needs) (λ c. search needs) (λ c. search needs)
+    returns-2 returns-3)

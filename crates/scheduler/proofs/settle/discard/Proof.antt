@@ -2,22 +2,16 @@
 -- task are. Assumes nothing.
 use mathlib.Core.Path.{sym, _∙_}
 use borrow.Author.Tests.{not-true, not-false}
-use borrow.Author.Needs.{needs}
+use native.Mathlib.Omega.{arith}
 use Rattle.scheduler.proofs.Inner.Steps.{discards-not, discards-entered}
 use Rattle.scheduler.proofs.settle.discard.Statement.{statement}
 use Rattle.scheduler.proofs.settle.discard.Tie as tie
-
-enters-d2-requires : tie.Need-enters-d2-requires
-enters-d2-requires c κs = search needs
 
 returns : tie.Need-returns
 returns c =
     let a = c .before .before .args in
     discards-not (a .h) (a .before) (a .tasks .now) (a .waiting .now) (a .runs .now)
     (sym (c .before .enters-d2 .ensures) ∙ not-true _ (c .if1 .taken))
-
-drop-low-requires : tie.Need-drop-low-requires
-drop-low-requires c κs = search needs
 
 returns-2 : tie.Need-returns-2
 returns-2 c =
@@ -28,4 +22,4 @@ returns-2 c =
     (c .drop-low .ensures .0) (c .drop-low .ensures .1) (c .drop-low .ensures .2)
 
 pub discard-spec : {M : Type 1} → statement M
-discard-spec = tie.close (tie.spec enters-d2-requires returns drop-low-requires returns-2)
+discard-spec = tie.close (tie.spec (λ c κs. tt) returns (λ c κs. omega arith) returns-2)

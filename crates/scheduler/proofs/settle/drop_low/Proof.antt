@@ -26,33 +26,6 @@ loop-holds : tie.Need-loop-holds Inv-loop μ-loop
 unfolding sumBelow
 loop-holds c = (omega arith, omega arith, anew-none _ _, anew-none _ _, refl)
 
-task-cell-requires : tie.Need-task-cell-requires Inv-loop μ-loop
-task-cell-requires c κs = omega arith
-
-element-copy-out-job-count : tie.Need-element-copy-out-job-count Inv-loop μ-loop
-element-copy-out-job-count c = omega arith
-
-job-count-requires : tie.Need-job-count-requires Inv-loop μ-loop
-job-count-requires c κs = tt
-
-add-count : tie.Need-add-count Inv-loop μ-loop
-add-count c = omega arith
-
-element-write-waiting : tie.Need-element-write-waiting Inv-loop μ-loop
-element-write-waiting c = omega arith
-
-mul-runs : tie.Need-mul-runs Inv-loop μ-loop
-mul-runs c = omega arith
-
-element-write-runs : tie.Need-element-write-runs Inv-loop μ-loop
-element-write-runs c = omega arith
-
-add-k : tie.Need-add-k Inv-loop μ-loop
-add-k c = omega arith
-
-loop-less : tie.Need-loop-less Inv-loop μ-loop
-loop-less c = omega arith
-
 loop-again : tie.Need-loop-again Inv-loop μ-loop
 loop-again c =
     let d = c .before in
@@ -88,6 +61,6 @@ returns c =
 pub drop-low-spec : {M : Type 1} → statement M
 drop-low-spec =
     tie.close
-    (tie.spec Inv-loop μ-loop loop-holds task-cell-requires element-copy-out-job-count
-    job-count-requires add-count element-write-waiting mul-runs element-write-runs add-k loop-less
-    loop-again returns)
+    (tie.spec Inv-loop μ-loop loop-holds (λ c κs. omega arith) (λ c. omega arith) (λ c κs. tt)
+    (λ c. omega arith) (λ c. omega arith) (λ c. omega arith) (λ c. omega arith) (λ c. omega arith)
+    (λ c. omega arith) loop-again returns)

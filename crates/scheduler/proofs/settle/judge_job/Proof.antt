@@ -5,24 +5,6 @@ use Rattle.scheduler.proofs.Inner.Steps.{thrice-d1, thrice-d2}
 use Rattle.scheduler.proofs.settle.judge_job.Statement.{statement}
 use Rattle.scheduler.proofs.settle.judge_job.Tie as tie
 
-enum-told : tie.Need-enum-told
-enum-told c = search needs
-
-judge-in-n-requires : tie.Need-judge-in-n-requires
-judge-in-n-requires c κs = search needs
-
-enum-told-2 : tie.Need-enum-told-2
-enum-told-2 c = search needs
-
-judge-in-d1-requires : tie.Need-judge-in-d1-requires
-judge-in-d1-requires c κs = search needs
-
-enum-told-3 : tie.Need-enum-told-3
-enum-told-3 c = search needs
-
-judge-in-d2-requires : tie.Need-judge-in-d2-requires
-judge-in-d2-requires c κs = search needs
-
 returns : tie.Need-returns
 returns c = λ k e f. rw (c .before .enum-told .given .1) (c .judge-in-n .ensures k e f)
 
@@ -35,5 +17,5 @@ returns-3 c = λ k e f. rw (c .before .enum-told3 .given .1) (c .judge-in-d2 .en
 pub judge-job-spec : {M : Type 1} → statement M
 judge-job-spec =
     tie.close
-    (tie.spec enum-told judge-in-n-requires enum-told-2 judge-in-d1-requires enum-told-3
-    judge-in-d2-requires returns returns-2 returns-3)
+    (tie.spec (λ c. search needs) (λ c κs. tt) (λ c. search needs) (λ c κs. tt) (λ c. search needs)
+    (λ c κs. tt) returns returns-2 returns-3)

@@ -22,51 +22,6 @@ abbrev μ-loop : tie.MeasureT-loop
 loop-holds : tie.Need-loop-holds Inv-loop μ-loop
 loop-holds c = (omega arith, anew-none _ _, anew-none _ _)
 
-mul-over : tie.Need-mul-over Inv-loop μ-loop
-mul-over c = omega arith
-
-element-copy-out-over : tie.Need-element-copy-out-over Inv-loop μ-loop
-element-copy-out-over c = omega arith
-
-server-cell-requires : tie.Need-server-cell-requires Inv-loop μ-loop
-server-cell-requires c κs = omega arith
-
-mul-left-of : tie.Need-mul-left-of Inv-loop μ-loop
-mul-left-of c = omega arith
-
-element-copy-out-left-of : tie.Need-element-copy-out-left-of Inv-loop μ-loop
-element-copy-out-left-of c = omega arith
-
-left-of-requires : tie.Need-left-of-requires Inv-loop μ-loop
-left-of-requires c κs = tt
-
-mul-used : tie.Need-mul-used Inv-loop μ-loop
-mul-used c = omega arith
-
-element-write-used : tie.Need-element-write-used Inv-loop μ-loop
-element-write-used c = omega arith
-
-mul-left-of-2 : tie.Need-mul-left-of-2 Inv-loop μ-loop
-mul-left-of-2 c = omega arith
-
-element-copy-out-left-of-2 : tie.Need-element-copy-out-left-of-2 Inv-loop μ-loop
-element-copy-out-left-of-2 c = omega arith
-
-left-of-requires-2 : tie.Need-left-of-requires-2 Inv-loop μ-loop
-left-of-requires-2 c κs = tt
-
-mul-elapsed : tie.Need-mul-elapsed Inv-loop μ-loop
-mul-elapsed c = omega arith
-
-element-write-elapsed : tie.Need-element-write-elapsed Inv-loop μ-loop
-element-write-elapsed c = omega arith
-
-add-i : tie.Need-add-i Inv-loop μ-loop
-add-i c = omega arith
-
-loop-less : tie.Need-loop-less Inv-loop μ-loop
-loop-less c = omega arith
-
 loop-again : tie.Need-loop-again Inv-loop μ-loop
 loop-again c =
     let d = c .before .before .before .before in
@@ -91,7 +46,7 @@ returns c =
 pub refill-spec : {M : Type 1} → statement M
 refill-spec =
     tie.close
-    (tie.spec Inv-loop μ-loop loop-holds mul-over element-copy-out-over server-cell-requires
-    mul-left-of element-copy-out-left-of left-of-requires mul-used element-write-used mul-left-of-2
-    element-copy-out-left-of-2 left-of-requires-2 mul-elapsed element-write-elapsed add-i loop-less
-    loop-again returns)
+    (tie.spec Inv-loop μ-loop loop-holds (λ c. omega arith) (λ c. omega arith) (λ c κs. omega arith)
+    (λ c. omega arith) (λ c. omega arith) (λ c κs. tt) (λ c. omega arith) (λ c. omega arith)
+    (λ c. omega arith) (λ c. omega arith) (λ c κs. tt) (λ c. omega arith) (λ c. omega arith)
+    (λ c. omega arith) (λ c. omega arith) loop-again returns)

@@ -1,22 +1,17 @@
 -- `scheduler::settle::settle` meets its contract: each call makes one step, and the four are put
 -- together. Assumes nothing.
+use native.Mathlib.Omega.{arith}
 use borrow.Author.Needs.{needs}
 use Rattle.scheduler.specs.Inner.Parts.{stateOf, atMode}
 use Rattle.scheduler.proofs.Inner.Steps.{settled-is}
 use Rattle.scheduler.proofs.settle.settle.Statement.{statement}
 use Rattle.scheduler.proofs.settle.settle.Tie as tie
 
-mark-job-requires : tie.Need-mark-job-requires
-mark-job-requires c κs = search needs
-
 discard-requires : tie.Need-discard-requires
 discard-requires c κs = c .before .before .before .before .before .before .pre .0 .tasks
 
 settled-mode-requires : tie.Need-settled-mode-requires
 settled-mode-requires c κs = c .before .before .before .before .before .before .before .before .pre .0 .tasks
-
-refill-requires : tie.Need-refill-requires
-refill-requires c κs = search needs
 
 returns : tie.Need-returns
 returns c =
@@ -43,4 +38,5 @@ returns c =
 pub settle-spec : {M : Type 1} → statement M
 settle-spec =
     tie.close
-    (tie.spec mark-job-requires discard-requires settled-mode-requires refill-requires returns)
+    (tie.spec (λ c κs. search needs) discard-requires settled-mode-requires (λ c κs. omega arith)
+    returns)
