@@ -5,15 +5,14 @@
 use mathlib.Core.Path.{_≡_, refl, sym, ap, _∙_}
 use mathlib.Core.Bool.{Bool, true, false, not, _&&_}
 use mathlib.Core.List.{List, [], _∷_, _++_, append-assoc}
-use mathlib.Core.Logic.{_⊎_, inl, inr}
-use Prim.Native.Nat.{ℕ, zero, suc, _+_, _-_, _≤_, _<_, _*_}
+use Prim.Native.Nat.{ℕ, suc, _+_, _-_, _≤_, _<_, _*_}
 use native.Mathlib.Omega.{arith}
 use native.Mathlib.Numerals.{add-one}
 use lib.Dec.{eqb, leb}
 use lib.ListN.{length, getD, take, drop, length-drop, drop-of-length-le, length-append}
-use lib.Seq.{take-length, take-all, take-nil, drop-drop, drop-cons}
+use lib.Seq.{take-length, drop-drop, drop-cons}
 use borrow.Author.Tests.{eqb-true, eq-eqb, ne-eqb, not-true, leb-true, le-leb}
-use Rattle.laws.proofs.Choice.{le-or-lt, clash, and-true, and-left, and-right, within-low}
+use Rattle.laws.proofs.Choice.{clash, and-true, and-left, and-right, within-low}
 use Rattle.laws.specs.Choice.{within}
 use Rattle.bytes.specs.Bytes.{indexOf, indexAfter, slice}
 use Rattle.decimal.proofs.Numbers.{are-digits, number-is-digits}
@@ -82,41 +81,6 @@ pub last-at : (b : ℕ) (l : List ℕ) (from e : ℕ) → Finds b l from e → f
     split b (drop from l) ≡ drop from l ∷ []
 last-at b l from e h g k =
     index-last b (drop from l) (omega (arith, length-drop from l, there b l from e h))
-
--- Field by field: `left` fields stand between `from` and the one that is wanted.
-pub field-next : (b : ℕ) (l : List ℕ) (from e left : ℕ) → Finds b l from e → e < length l → 0 < left →
-    getD (split b (drop from l)) left [] ≡ getD (split b (drop (e + 1) l)) (left - 1) []
-field-next b l from e zero h k g = absurd (omega arith)
-field-next b l from e (suc left) h k g =
-    let s : suc left - 1 ≡ left = omega arith in rw (cut-at b l from e h k, s)
-
-pub field-none : (b : ℕ) (l : List ℕ) (from e left : ℕ) → Finds b l from e → from ≤ length l → length l ≤ e →
-    0 < left → getD (split b (drop from l)) left [] ≡ take (length l - e) (drop e l)
-field-none b l from e zero h g k m = absurd (omega arith)
-field-none b l from e (suc left) h g k m = rw (last-at b l from e h g k, drop-of-length-le l k, take-nil (length l - e))
-
-here : (b : ℕ) (l : List ℕ) (from e : ℕ) → Finds b l from e → from ≤ length l → e ≤ length l →
-    getD (split b (drop from l)) 0 [] ≡ take (e - from) (drop from l)
-here b l from e h g k = go (le-or-lt (length l) e)
-  where
-    go : (length l ≤ e) ⊎ (e < length l) → getD (split b (drop from l)) 0 [] ≡ take (e - from) (drop from l)
-    go (inl m) =
-        rw (last-at b l from e h g m) (sym (take-all (e - from) (drop from l) (omega (arith, length-drop from l))))
-    go (inr m) = rw (cut-at b l from e h m)
-
-pub field-here : (b : ℕ) (l : List ℕ) (from e left : ℕ) → Finds b l from e → from ≤ length l →
-    e ≤ length l → left ≤ 0 → getD (split b (drop from l)) left [] ≡ take (e - from) (drop from l)
-field-here b l from e zero h g k z = here b l from e h g k
-field-here b l from e (suc left) h g k z = absurd (omega arith)
-
--- Fields counted: n before `from`.
-pub count-next : (b : ℕ) (l : List ℕ) (from e : ℕ) → Finds b l from e → e < length l →
-    length (split b (drop from l)) ≡ suc (length (split b (drop (e + 1) l)))
-count-next b l from e h k = rw (cut-at b l from e h k)
-
-pub count-last : (b : ℕ) (l : List ℕ) (from e : ℕ) → Finds b l from e → from ≤ length l → length l ≤ e →
-    length (split b (drop from l)) ≡ 1
-count-last b l from e h g k = rw (last-at b l from e h g k)
 
 -- no byte is b
 unfoldable pub lacks : ℕ → List ℕ → Bool

@@ -121,6 +121,11 @@ digits-more v d h k = go (v * 10 + d) refl
         let r : suc n % 10 ≡ d = omega arith in
         rw (in-more n (suc n) (omega arith), q, r, enough n v v (omega arith) (omega arith))
 
+pub digits-two : (n : ℕ) → 10 ≤ n → n < 100 → digits n ≡ (48 + n / 10) ∷ (48 + n % 10) ∷ []
+digits-two n h l =
+    let e : n / 10 * 10 + n % 10 ≡ n = omega arith in
+    rw (digits-one (n / 10) (omega arith)) at (rw e at (digits-more (n / 10) (n % 10) (omega arith) (omega arith)))
+
 -- a property of every number, from those of one digit and of one digit more
 pub digits-ind : (P : ℕ → Type 0) → ((n : ℕ) → n < 10 → P n) → ((v d : ℕ) → 0 < v → d < 10 → P v → P (v * 10 + d)) →
     (n : ℕ) → P n

@@ -1,19 +1,19 @@
 -- Bytes put into a lent room: one text after another is one text, and where there is room for all
 -- of it the room holds it, and else what it held. Assumes nothing.
 use mathlib.Core.Path.{_≡_, refl, sym, ap, subst, _∙_}
-use mathlib.Core.List.{List, [], _∷_, _++_, append-assoc, append-nil}
+use mathlib.Core.List.{List, [], _∷_, _++_, append-assoc}
 use mathlib.Core.Logic.{_⊎_, inl, inr}
-use Prim.Native.Nat.{ℕ, zero, suc, _+_, _*_, _-_, _/_, _%_, _^_, _≤_, _<_, max}
+use Prim.Native.Nat.{ℕ, suc, _+_, _*_, _-_, _/_, _%_, _^_, _≤_, _<_, max}
 use native.Mathlib.Omega.{arith}
-use native.Mathlib.Nat.{add-zero, add-suc, suc-add, pow-suc}
+use native.Mathlib.Nat.{add-zero, add-suc, suc-add}
 use native.Mathlib.Numerals.{add-one}
-use lib.ListN.{length, getD, take, drop, set, replicate, length-append, length-set}
-use lib.Seq.{sets, length-sets, sets-eq, set-out, take-suc, drop-cons, drop-set-lt, getD-set-same}
+use lib.ListN.{length, getD, take, drop, set, length-append}
+use lib.Seq.{sets, length-sets, sets-eq, set-out, set-comm, take-suc, take-at, drop-at, length-take-le}
 use Rattle.laws.proofs.Choice.{le-or-lt}
 use Rattle.decimal.specs.Number.{digits}
 use Rattle.decimal.specs.Lines.{tab, lineFeed, join, closed}
-use Rattle.decimal.specs.Room.{Put}
-use Rattle.decimal.proofs.Numbers.{digits-one, digits-more}
+use Rattle.decimal.specs.Room.{Put, Spelled, mostDigits, spelled}
+use Rattle.decimal.proofs.Numbers.{digits-one, digits-more, digits-some, digits-length}
 use Rattle.decimal.proofs.Lines.{closed-append}
 
 -- stores, one after another and past the end
@@ -36,69 +36,79 @@ put-past b d at next h e = record { leaves = sym (sets-out d at (b ∷ []) h); e
 pub put-none : (d : List ℕ) (at : ℕ) → Put [] d at d at
 put-none d at = record { leaves = refl; ends = omega arith }
 
--- A number's last digits, found from the last one on: they stand in 20 bytes from place `first` on, and `left` is what is left
--- of the number.
-pub record LastDigits (n : ℕ) (text : List ℕ) (first left : ℕ) : Type 0 where
-  pub long : length text ≡ 20
-  pub within : first ≤ 20
-  pub some : 1 ≤ first
-  pub fits : left < 10 ^ first
-  pub said : digits n ≡ digits left ++ drop first text
+-- The digits of a number, found from the last one on: those of what is left of it are yet to be
+-- stored before place `end`.
+abbrev before : ℕ → List ℕ → ℕ → Spelled
+before left text end =
+    let first = end - length (digits left) in record { text = sets text first (digits left); first = first }
 
-pub digits-start : (n : ℕ) → n < 2 ^ 64 → LastDigits n (replicate 20 0) 20 n
-digits-start n h =
+pub record LastDigits (n : ℕ) (text₀ text : List ℕ) (end left : ℕ) : Type 0 where
+  pub within : end ≤ mostDigits
+  pub some : 1 ≤ end
+  pub enough : length (digits left) ≤ end
+  pub same : before left text end ≡ spelled n text₀
+
+pub spell-start : (n : ℕ) (text : List ℕ) → n < 2 ^ 64 → LastDigits n text text mostDigits n
+unfolding spelled
+spell-start n text h =
+    record { within = omega arith; some = omega arith; enough = digits-length n 19 (omega arith); same = refl }
+
+-- the last byte may be stored first
+sets-last : (d : List ℕ) (at : ℕ) (xs : List ℕ) (y : ℕ) →
+    sets d at (xs ++ (y ∷ [])) ≡ sets (set d (at + length xs) y) at xs
+sets-last d at [] y = rw (add-zero at)
+sets-last d at (x ∷ xs) y =
+    let e : suc at + length xs ≡ at + suc (length xs) = omega arith in
+    sets-last (set d at x) (suc at) xs y
+    ∙ rw (e, set-comm d at (at + suc (length xs)) x y (λ q. omega arith))
+
+pub spell-next : (n : ℕ) (text₀ text : List ℕ) (end left : ℕ) → LastDigits n text₀ text end left → 10 ≤ left →
+    LastDigits n text₀ (set text (end - 1) (48 + left % 10)) (end - 1) (left / 10)
+spell-next n text₀ text end left w h =
+    let v = left / 10 in
+    let d = 48 + left % 10 in
+    let e : v * 10 + left % 10 ≡ left = omega arith in
+    let g : digits left ≡ digits v ++ (d ∷ []) = rw e at (digits-more v (left % 10) (omega arith) (omega arith)) in
+    let m : length (digits left) ≡ length (digits v) + 1 = rw g (length-append (digits v) (d ∷ [])) in
+    let f : end - 1 - length (digits v) ≡ end - length (digits left) = omega arith in
+    let l : end - length (digits left) + length (digits v) ≡ end - 1 = omega (arith, w .enough) in
     record {
-      long = refl;
-      within = omega arith;
-      some = omega arith;
-      fits = omega arith;
-      said = sym (append-nil (digits n));
+      within = omega (arith, w .within);
+      some = omega (arith, w .enough, digits-some v);
+      enough = omega (arith, w .enough);
+      same = rw (f, ← l, ← sets-last text (end - length (digits left)) (digits v) d, ← g) (w .same);
     }
 
--- a digit before those that stand
-drop-put : (text : List ℕ) (f v : ℕ) → f < length text → drop f (set text f v) ≡ v ∷ drop (suc f) text
-drop-put text f v h =
-    drop-cons (set text f v) f 0 (omega (arith, length-set text f v)) ∙
-    rw (getD-set-same text f v 0 h, drop-set-lt (suc f) text f v (omega arith))
+pub spell-done : (n : ℕ) (text₀ text : List ℕ) (end left : ℕ) → LastDigits n text₀ text end left → left < 10 →
+    _≡_ {A = Spelled} (record { text = set text (end - 1) (48 + left); first = end - 1 }) (spelled n text₀)
+spell-done n text₀ text end left w h = rw (digits-one left h) at (w .same)
 
-module _ (n : ℕ) (text : List ℕ) (f left : ℕ) (w : LastDigits n text (suc f) left) where
-  some-before : 10 ≤ left → 1 ≤ f
-  some-before h = go f (w .fits)
-    where
-      go : (f : ℕ) → left < 10 ^ suc f → 1 ≤ f
-      go zero l = absurd (omega (arith, pow-suc 10 0))
-      go (suc f) l = omega arith
+-- what is spelled in a text of so many bytes: it keeps its length, and ends with the digits
+pub record Ends (n : ℕ) (text : List ℕ) (first : ℕ) : Type 0 where
+  pub within : first ≤ mostDigits
+  pub long : length text ≡ mostDigits
+  pub said : take (mostDigits - first) (drop first text) ≡ digits n
 
-  one-more : 10 ≤ left → LastDigits n (set text f (48 + left % 10)) f (left / 10)
-  one-more h =
-      let v : left / 10 * 10 + left % 10 ≡ left = omega arith in
-      let g : digits (left / 10 * 10 + left % 10) ≡ digits (left / 10) ++ ((48 + left % 10) ∷ []) =
-      digits-more (left / 10) (left % 10) (omega arith) (omega arith) in
-      record {
-        long = length-set text f (48 + left % 10) ∙ w .long;
-        within = omega (arith, w .within);
-        some = some-before h;
-        fits = omega (arith, w .fits, pow-suc 10 f);
-        said =
-            w .said ∙
-            rw
-            (drop-put text f (48 + left % 10) (omega (arith, w .long, w .within)), ← ap digits v, g)
-            (append-assoc (digits (left / 10)) ((48 + left % 10) ∷ []) (drop (suc f) text));
-      }
-
-  all-found : left < 10 → drop f (set text f (48 + left)) ≡ digits n
-  all-found h = drop-put text f (48 + left) (omega (arith, w .long, w .within)) ∙ sym (w .said ∙ rw (digits-one left h))
-
--- as the loop counts down
-pub digits-next : (n : ℕ) (text : List ℕ) (first left : ℕ) → LastDigits n text first left → 10 ≤ left →
-    LastDigits n (set text (first - 1) (48 + left % 10)) (first - 1) (left / 10)
-digits-next n text zero left w h = absurd (omega (arith, w .some))
-digits-next n text (suc f) left w h = let e : suc f - 1 ≡ f = omega arith in rw e (one-more n text f left w h)
-
-pub digits-found : (n : ℕ) (text : List ℕ) (first left : ℕ) → LastDigits n text first left → left < 10 →
-    drop (first - 1) (set text (first - 1) (48 + left)) ≡ digits n
-digits-found n text zero left w h = absurd (omega (arith, w .some))
-digits-found n text (suc f) left w h = let e : suc f - 1 ≡ f = omega arith in rw e (all-found n text f left w h)
+pub spelled-ends : (n : ℕ) (text₀ : List ℕ) {text : List ℕ} {first : ℕ} → n < 2 ^ 64 → length text₀ ≡ mostDigits →
+    _≡_ {A = Spelled} (record { text = text; first = first }) (spelled n text₀) → Ends n text first
+unfolding spelled
+spelled-ends n text₀ h l e =
+    let ds = digits n in
+    let f = mostDigits - length ds in
+    let m : length ds ≤ mostDigits = digits-length n 19 (omega arith) in
+    let rest = drop (f + length ds) text₀ in
+    rw (ap (λ s. s .first) e, ap (λ s. s .text) e)
+    (record {
+      within = omega arith;
+      long = length-sets text₀ f ds ∙ l;
+      said =
+          rw (
+            sets-eq ds text₀ f (omega arith),
+            append-assoc (take f text₀) ds rest,
+            drop-at (take f text₀) (ds ++ rest) f (length-take-le f text₀ (omega arith)),
+          )
+          (take-at ds rest (mostDigits - f) (omega arith));
+    })
 
 -- one text
 module _ {d : List ℕ} {at : ℕ} {e : List ℕ} {r : ℕ} where

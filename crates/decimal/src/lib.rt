@@ -1,15 +1,13 @@
-// Decimal numbers and fields in text. (01, Tables.) Which bytes are a number, and which number, is
+// Decimal numbers and words in text. (01, Tables.) Which bytes are a number, and which number, is
 // in specs/Number.antt; how text is cut into lines and lines into fields is in specs/Lines.antt.
 
 pub mod put;
 
 ghost use mathlib.Core.Path.{_≡_};
 ghost use mathlib.Core.Bool.{true};
-ghost use mathlib.Core.List.{[]};
 ghost use Prim.Native.Nat.{_-_, _≤_};
-ghost use lib.ListN.{length, getD};
 ghost use Rattle.decimal.specs.Number.{areDigits, leadsWell, isNumber, worth, readNumber};
-ghost use Rattle.decimal.specs.Lines.{tab, split, same};
+ghost use Rattle.decimal.specs.Lines.{same};
 
 pub const TAB: u8 = 9;
 
@@ -100,51 +98,4 @@ pub fn is_same(a: &[u8], b: &[u8]) -> bool
         }
     }
     true
-}
-
-// Fields count from 0. One that is missing is empty, as is what stands past the end of the line.
-fn field<'a>(line: &'a [u8], k: usize) -> &'a [u8]
-    ensures { λ r. ⌜ now r ≡ getD (split tab (now (line .entry))) k [] ⌝ }
-{
-    let mut at = 0;
-    let mut left = k;
-    while 0 < left {
-        let e = bytes::scan::find(line, at, line.len(), TAB);
-        if e == line.len() {
-            return &line[e..];
-        }
-        at = e + 1;
-        left -= 1;
-    }
-    let e = bytes::scan::find(line, at, line.len(), TAB);
-    &line[at..e]
-}
-
-// How many fields a line has: one more than it has tabs.
-pub fn fields(line: &[u8]) -> usize
-    ensures { λ r. ⌜ r ≡ length (split tab (now (line .entry))) ⌝ }
-{
-    let mut at = 0;
-    let mut n = 1;
-    loop {
-        let e = bytes::scan::find(line, at, line.len(), TAB);
-        if e == line.len() {
-            return n;
-        }
-        at = e + 1;
-        n += 1;
-    }
-}
-
-// Whether field k is the word w.
-pub fn word_in(line: &[u8], k: usize, w: &[u8]) -> bool
-    ensures { λ r. ⌜ r ≡ same (getD (split tab (now (line .entry))) k []) (now (w .entry)) ⌝ }
-{
-    is_same(field(line, k), w)
-}
-
-pub fn number_in(line: &[u8], k: usize) -> Number
-    ensures { λ r. ⌜ r ≡ readNumber (getD (split tab (now (line .entry))) k []) ⌝ }
-{
-    read_number(field(line, k))
 }

@@ -3,11 +3,9 @@
 use mathlib.Core.Path.{refl, ap, sym, _∙_}
 use Rattle.decimal.proofs.read_number
 use Rattle.decimal.proofs.is_same
-use Rattle.decimal.proofs.fields
-use Rattle.decimal.proofs.word_in
-use Rattle.decimal.proofs.number_in
 use Rattle.decimal.proofs.put.put_byte
 use Rattle.decimal.proofs.put.put_all
+use Rattle.decimal.proofs.put.spell
 use Rattle.decimal.proofs.put.put_number
 use Rattle.outcomes.specs.OneOutcome.{OneOutcome}
 use Rattle.outcomes.proofs.OneOutcome.{settled}
@@ -18,15 +16,6 @@ read-number-settled = settled (λ κs a. tt) (λ κs a x y p q. (p ∙ sym q, re
 pub is-same-settled : OneOutcome is_same.Kinds.ps is_same.Kinds.r is_same.Reads.Asked is_same.Reads.Learnt
 is-same-settled = settled (λ κs a. tt) (λ κs a x y p q. (p ∙ sym q, refl))
 
-pub fields-settled : OneOutcome fields.Kinds.ps fields.Kinds.r fields.Reads.Asked fields.Reads.Learnt
-fields-settled = settled (λ κs a. tt) (λ κs a x y p q. (p ∙ sym q, refl))
-
-pub word-in-settled : OneOutcome word_in.Kinds.ps word_in.Kinds.r word_in.Reads.Asked word_in.Reads.Learnt
-word-in-settled = settled (λ κs a. tt) (λ κs a x y p q. (p ∙ sym q, refl))
-
-pub number-in-settled : OneOutcome number_in.Kinds.ps number_in.Kinds.r number_in.Reads.Asked number_in.Reads.Learnt
-number-in-settled = settled (λ κs a. tt) (λ κs a x y p q. (p ∙ sym q, refl))
-
 pub put-byte-settled : OneOutcome put_byte.Kinds.ps put_byte.Kinds.r put_byte.Reads.Asked put_byte.Reads.Learnt
 put-byte-settled = settled (λ κs a. tt) (λ κs a x y p q.
     (p .ends ∙ sym (q .ends), ap (λ w. (tt, (w, (tt, tt)))) (p .leaves ∙ sym (q .leaves))))
@@ -34,6 +23,10 @@ put-byte-settled = settled (λ κs a. tt) (λ κs a x y p q.
 pub put-all-settled : OneOutcome put_all.Kinds.ps put_all.Kinds.r put_all.Reads.Asked put_all.Reads.Learnt
 put-all-settled = settled (λ κs a. tt) (λ κs a x y p q.
     (p .ends ∙ sym (q .ends), ap (λ w. (tt, (w, (tt, tt)))) (p .leaves ∙ sym (q .leaves))))
+
+pub spell-settled : OneOutcome spell.Kinds.ps spell.Kinds.r spell.Reads.Asked spell.Reads.Learnt
+spell-settled = settled (λ κs a. tt) (λ κs a x y p q.
+    (ap (λ v. v .first) (p ∙ sym q), ap (λ v. (tt, (v .text, tt))) (p ∙ sym q)))
 
 pub put-number-settled : OneOutcome put_number.Kinds.ps put_number.Kinds.r put_number.Reads.Asked put_number.Reads.Learnt
 put-number-settled = settled (λ κs a. tt) (λ κs a x y p q.

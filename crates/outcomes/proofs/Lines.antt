@@ -1,11 +1,11 @@
 -- The contracts of crate lines settle what they answer and what they leave in the lent room: two
 -- outcomes that one of them allows equal the same definition's value. Assumes nothing.
 use mathlib.Core.Path.{refl, ap, sym, _∙_}
-use Rattle.lines.proofs.cut.no_line
-use Rattle.lines.proofs.cut.cut_lines
-use Rattle.lines.proofs.answer.print_lines
-use Rattle.lines.proofs.answer.put_another
-use Rattle.lines.proofs.answer.put_refused
+use Rattle.cutter.proofs.no_line
+use Rattle.cutter.proofs.cut_lines
+use Rattle.printer.proofs.print_lines
+use Rattle.printer.proofs.put_another
+use Rattle.printer.proofs.put_refused
 use Rattle.outcomes.specs.OneOutcome.{OneOutcome}
 use Rattle.outcomes.proofs.OneOutcome.{settled}
 

@@ -7,16 +7,16 @@ use mathlib.Core.List.{[], _∷_}
 use native.Mathlib.Omega.{arith}
 use lib.ListN.{getD}
 use Rattle.laws.proofs.is_within
-use Rattle.decimal.proofs.fields
-use Rattle.lines.proofs.answer.put_another
+use Rattle.laws.proofs.larger_of
+use Rattle.printer.proofs.put_another
 use Rattle.outcomes.specs.OneOutcome.{OneOutcome}
 
 -- `r ≤ 1` in place of an equation: 0 and 1 are allowed
-pub open-answer : OneOutcome fields.Kinds.ps fields.Kinds.r (λ κs a. Unit {0}) (λ κs a r s. r ≤ 1) → ⊥
+pub open-answer : OneOutcome larger_of.Kinds.ps larger_of.Kinds.r (λ κs a. Unit {0}) (λ κs a r s. r ≤ 1) → ⊥
 open-answer h = omega (
   arith,
-  ap (λ x. x .answer) (h .one-outcome ([], tt) (record { ptr = (0, 0); name = 0; now = [] }, tt)
-      (record { answer = 0; lent = (tt, tt) }) (record { answer = 1; lent = (tt, tt) }) (omega arith) (omega arith)),
+  ap (λ x. x .answer) (h .one-outcome tt (0, (0, tt)) (record { answer = 0; lent = (tt, (tt, tt)) })
+      (record { answer = 1; lent = (tt, (tt, tt)) }) (omega arith) (omega arith)),
 )
 
 -- an equation for the answer alone: a lent byte may be 0 and may be 1

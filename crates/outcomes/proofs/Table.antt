@@ -3,9 +3,8 @@
 use mathlib.Core.Path.{refl, sym, _∙_}
 use Rattle.table.proofs.number_of
 use Rattle.table.proofs.no_table
-use Rattle.table.proofs.first_pair
-use Rattle.table.proofs.server_priorities
-use Rattle.table.proofs.task_priorities
+use Rattle.table.proofs.equal_servers
+use Rattle.table.proofs.equal_tasks
 use Rattle.table.proofs.in_mode
 use Rattle.table.proofs.largest_of
 use Rattle.table.proofs.is_low
@@ -21,14 +20,11 @@ number-of-settled = settled (λ κs a. tt) (λ κs a x y p q. (p ∙ sym q, refl
 pub no-table-settled : OneOutcome no_table.Kinds.ps no_table.Kinds.r no_table.Reads.Asked no_table.Reads.Learnt
 no-table-settled = settled (λ κs a. tt) (λ κs a x y p q. (p ∙ sym q, refl))
 
-pub first-pair-settled : OneOutcome first_pair.Kinds.ps first_pair.Kinds.r first_pair.Reads.Asked first_pair.Reads.Learnt
-first-pair-settled = settled (λ κs a. tt) (λ κs a x y p q. (p ∙ sym q, refl))
+pub equal-servers-settled : OneOutcome equal_servers.Kinds.ps equal_servers.Kinds.r equal_servers.Reads.Asked equal_servers.Reads.Learnt
+equal-servers-settled = settled (λ κs a. tt) (λ κs a x y p q. (p ∙ sym q, refl))
 
-pub server-priorities-settled : OneOutcome server_priorities.Kinds.ps server_priorities.Kinds.r server_priorities.Reads.Asked server_priorities.Reads.Learnt
-server-priorities-settled = settled (λ κs a. tt) (λ κs a x y p q. (p ∙ sym q, refl))
-
-pub task-priorities-settled : OneOutcome task_priorities.Kinds.ps task_priorities.Kinds.r task_priorities.Reads.Asked task_priorities.Reads.Learnt
-task-priorities-settled = settled (λ κs a. tt) (λ κs a x y p q. (p ∙ sym q, refl))
+pub equal-tasks-settled : OneOutcome equal_tasks.Kinds.ps equal_tasks.Kinds.r equal_tasks.Reads.Asked equal_tasks.Reads.Learnt
+equal-tasks-settled = settled (λ κs a. tt) (λ κs a x y p q. (p ∙ sym q, refl))
 
 pub in-mode-settled : OneOutcome in_mode.Kinds.ps in_mode.Kinds.r in_mode.Reads.Asked in_mode.Reads.Learnt
 in-mode-settled = settled (λ κs a. tt) (λ κs a x y p q. (p ∙ sym q, refl))

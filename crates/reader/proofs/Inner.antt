@@ -7,11 +7,10 @@ use mathlib.Core.List.{List, [], _∷_, _++_, append-assoc}
 use mathlib.Core.Logic.{inl, inr}
 use Prim.Native.Nat.{ℕ, suc, _+_, _-_, _≤_, _<_}
 use native.Mathlib.Omega.{arith}
-use native.Mathlib.Nat.{pos-of-ne-zero}
-use lib.Dec.{ltb}
+use lib.Dec.{ltb, eqb}
 use lib.ListN.{length, set, replicate, length-append}
 use lib.Seq.{set-append-seam}
-use borrow.Author.Tests.{ltb-true, eqb-true}
+use borrow.Author.Tests.{ltb-true, eqb-true, ne-eqb}
 use Rattle.laws.specs.Choice.{every}
 use Rattle.laws.proofs.Choice.{clash, and-left, within-low, within-high, le-or-lt}
 use Rattle.units.specs.declared.Micros.{Micros}
@@ -29,7 +28,7 @@ use Rattle.text.specs.Standing.{isNil, placed, bounds, fault, serverOf, limitsO
 use Rattle.reader.specs.Inner.{Above, Grows}
 use Rattle.text.proofs.Bounds.{server-within, task-within}
 use Rattle.table.proofs.Rules.{rows-there}
-use Rattle.text.proofs.Standing.{not-nil, Keeps, standing-keeps}
+use Rattle.text.proofs.Standing.{Keeps, standing-keeps}
 use Rattle.text.proofs.RoundTrip.{table-rows}
 
 -- a row put where there is room
@@ -46,6 +45,10 @@ padded-more n z x xs h =
     go : (r q p : ℕ) → p ≡ suc r → q ≡ r → set (xs ++ replicate p z) (length xs) x ≡ (xs ++ (x ∷ [])) ++ replicate q z
     go r q p e f = rw (e, f, append-assoc xs (x ∷ []) (replicate r z)) (set-append-seam xs z (replicate r z) x)
 
+pub nil-is : {A : Type 0} (xs : List A) → isNil xs ≡ eqb (length xs) 0
+nil-is [] = refl
+nil-is (x ∷ xs) = sym (ne-eqb (suc (length xs)) 0 (λ e. omega arith))
+
 -- a table that holds its rows and nothing else: its counts are theirs
 module _ (t : Table) (whole : t ≡ tableOf (rowsOf t)) where
   pub servers-count : length (rowsOf t .servers) ≡ t .nservers
@@ -56,21 +59,8 @@ module _ (t : Table) (whole : t ≡ tableOf (rowsOf t)) where
   unfolding tableOf
   tasks-count = sym (ap (λ (x : Table). x .ntasks) whole)
 
-  none : {A : Type 0} (xs : List A) → length xs ≤ 0 → isNil xs ≡ true
-  none [] h = refl
-  none (x ∷ xs) h = absurd (omega arith)
-
-  pub no-server : t .nservers ≤ 0 → isNil (rowsOf t .servers) ≡ true
-  no-server h = none (rowsOf t .servers) (omega (arith, servers-count))
-
-  pub a-server : (t .nservers ≡ 0 → ⊥) → isNil (rowsOf t .servers) ≡ false
-  a-server h = not-nil (rowsOf t .servers) (omega (arith, servers-count, pos-of-ne-zero h))
-
-  pub no-task : t .ntasks ≤ 0 → isNil (rowsOf t .tasks) ≡ true
-  no-task h = none (rowsOf t .tasks) (omega (arith, tasks-count))
-
-  pub a-task : 0 < t .ntasks → isNil (rowsOf t .tasks) ≡ false
-  a-task h = not-nil (rowsOf t .tasks) (omega (arith, tasks-count))
+  pub tasks-nil : isNil (rowsOf t .tasks) ≡ eqb (t .ntasks) 0
+  tasks-nil = rw (nil-is (rowsOf t .tasks), tasks-count)
 
 -- below the first line, and wherever a server stands above, the tick is known
 module _ (n : ℕ) (t : Table) (r : Above n t) where

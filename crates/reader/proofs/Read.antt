@@ -1,21 +1,20 @@
 -- A whole text, read line by line: what a loop at a line has yet to find out is what is said of the
 -- lines from there on. At the end the rows are compared, and lines are told from rows. Assumes
 -- nothing.
-use mathlib.Core.Path.{_≡_, refl, sym, ap, _∙_, subst}
+use mathlib.Core.Path.{_≡_, sym, ap, _∙_, subst}
 use mathlib.Core.Bool.{true, false}
-use mathlib.Core.List.{List, [], _∷_, map}
-use Prim.Native.Nat.{ℕ, zero, suc, _+_, _-_, _≤_, _<_}
+use mathlib.Core.List.{List}
+use Prim.Native.Nat.{ℕ, _+_, _-_, _≤_, _<_}
 use native.Mathlib.Omega.{arith}
-use lib.ListN.{length, getD, take, drop, length-map, length-drop, drop-of-length-le, List·getD-map}
+use lib.ListN.{length, take, drop, length-drop, drop-of-length-le}
 use borrow.Author.Tests.{le-leb, lt-leb}
 use Rattle.decimal.specs.Lines.{lineFeed, split}
 use Rattle.decimal.proofs.Lines.{Finds, cut-at, last-at, split-some}
-use Rattle.table.specs.declared.Pair.{Pair}
 use Rattle.table.specs.declared.Pair.the-variants.{Equal, Differ}
 use Rattle.table.specs.declared.Table.{Table}
 use Rattle.table.specs.declared.Refusal.{Refusal}
 use Rattle.table.specs.declared.Refusal.the-variants.{Malformed, OutOfBounds}
-use Rattle.table.specs.Pairs.{firstPair}
+use Rattle.table.specs.Pairs.{firstPair, equalServers, equalTasks}
 use Rattle.table.specs.Rows.{Rows, noRows, rowsOf, tableOf}
 use Rattle.table.proofs.Pairs.{pair-found}
 use Rattle.text.specs.declared.Line.{Line}
@@ -24,62 +23,41 @@ use Rattle.text.specs.declared.Reading.the-variants.{Taken}
 use Rattle.text.specs.declared.Read.{Read}
 use Rattle.text.specs.Line.{readLine}
 use Rattle.text.specs.Standing.{isNil, standing, grown}
-use Rattle.text.specs.Read.{taken, refused, equal, pairSaid, equalServers, equalTasks, compared, ended, lineSaid, readFrom, read, shown}
+use Rattle.text.specs.Read.{refused, equal, compared, ended, lineSaid, readFrom, read, shown}
 use Rattle.reader.specs.Inner.{Above}
 use Rattle.text.proofs.Standing.{not-nil}
 use Rattle.text.proofs.Allowed.{from-line}
 use Rattle.text.proofs.RoundTrip.{table-rows}
 use Rattle.reader.proofs.Inner.{above-first}
 
--- rows of equal priority: a column of the rows in use
-take-map : {A : Type 0} (f : A → ℕ) (n : ℕ) (xs : List A) → take n (map f xs) ≡ map f (take n xs)
-take-map f zero xs = refl
-take-map f (suc n) [] = refl
-take-map f (suc n) (x ∷ xs) = ap (λ ys. f x ∷ ys) (take-map f n xs)
+-- both rows of an equal pair are below the count
+pub pair-below : (m n : ℕ) (q : ℕ → ℕ) (i j : ℕ) → m ≤ n → firstPair m q ≡ Equal i j →
+    (i < n) × (j < n)
+pair-below m n q i j h e = let w = pair-found m q i j e in omega (arith, w .ordered, w .below)
 
-column-pair : {A : Type 0} (f : A → ℕ) (d : A) (xs : List A) → f d ≡ 0 →
-    firstPair (length (map f xs)) (λ i. getD (map f xs) i 0) ≡ firstPair (length xs) (λ i. f (getD xs i d))
-column-pair f d xs z =
-    rw (length-map xs f) (ap (firstPair (length xs)) (λ k i. (rw z at (List·getD-map f xs i d)) k))
-
-pub rows-pair : {A : Type 0} (f : A → ℕ) (d : A) (xs : List A) (n : ℕ) (ys : List ℕ) (p : Pair) →
-    f d ≡ 0 → ys ≡ map f xs → p ≡ firstPair (length (take n ys)) (λ i. getD (take n ys) i 0) →
-    p ≡ firstPair (length (take n xs)) (λ i. f (getD (take n xs) i d))
-rows-pair f d xs n ys p z e g = (rw (e, take-map f n xs) at g) ∙ column-pair f d (take n xs) z
-
--- both rows are below the count
-pub pair-below : (m n : ℕ) (q : ℕ → ℕ) (i j : ℕ) → m ≤ n → Equal i j ≡ firstPair m q → (i < n) × (j < n)
-pair-below m n q i j h e = let w = pair-found m q i j (sym e) in omega (arith, w .ordered, w .below)
-
--- the end: servers, then tasks
-pub tasks-equal : (a : Rows) (top i j : ℕ) → Equal i j ≡ equalTasks a →
-    equal (top + i) (top + j) ≡ pairSaid top (equalTasks a) (taken a)
-tasks-equal a top i j e = rw (← e)
-
-pub tasks-differ : (a : Rows) (top : ℕ) → Differ ≡ equalTasks a → taken a ≡ pairSaid top (equalTasks a) (taken a)
-tasks-differ a top e = rw (← e)
-
-pub servers-equal : (a : Rows) (i j : ℕ) → Equal i j ≡ equalServers a → equal (2 + i) (2 + j) ≡ compared a
-unfolding compared
-servers-equal a i j e = rw (← e)
-
-pub servers-differ : (a : Rows) (m : ℕ) → length (a .servers) ≡ m → Differ ≡ equalServers a →
-    pairSaid (2 + m) (equalTasks a) (taken a) ≡ compared a
-unfolding compared
-servers-differ a m c e = rw (← e, c)
-
-pub taken-shown : (t : Table) → t ≡ tableOf (rowsOf t) →
-    _≡_ {A = Read} (record { answer = Taken; table = t }) (shown (taken (rowsOf t)))
-unfolding shown
-taken-shown t e = ap (λ (x : Table). record { answer = Taken; table = x }) e
-
+-- the end: without a task a line is missing; else servers, then tasks
 pub ended-none : (n : ℕ) (a : Rows) → isNil (a .tasks) ≡ true → refused Malformed n ≡ ended n a
 unfolding ended
 ended-none n a e = rw e
 
-pub ended-some : (n : ℕ) (a : Rows) → isNil (a .tasks) ≡ false → compared a ≡ ended n a
-unfolding ended
-ended-some n a e = rw e
+module _ (n : ℕ) (a : Rows) (some : isNil (a .tasks) ≡ false) where
+  pub ended-servers : {i j : ℕ} → equalServers (a .servers) ≡ Equal i j →
+      equal (2 + i) (2 + j) ≡ ended n a
+  unfolding ended compared
+  ended-servers e = rw (some, e)
+
+  module _ (e : equalServers (a .servers) ≡ Differ) where
+    pub ended-tasks : {m i j : ℕ} → length (a .servers) ≡ m → equalTasks (a .tasks) ≡ Equal i j →
+        equal (2 + m + i) (2 + m + j) ≡ ended n a
+    unfolding ended compared
+    ended-tasks c f = rw (some, e, c, f)
+
+    pub ended-taken : (t : Table) → a ≡ rowsOf t → t ≡ tableOf (rowsOf t) →
+        equalTasks (a .tasks) ≡ Differ →
+        _≡_ {A = Read} (record { answer = Taken; table = t }) (shown (ended n a))
+    unfolding ended compared shown
+    ended-taken t r w f =
+        rw (some, e, f, r) (ap (λ (x : Table). record { answer = Taken; table = x }) w)
 
 -- the text as a whole
 pub read-long : (text : List ℕ) → 16384 < length text → refused OutOfBounds 0 ≡ read text

@@ -1,90 +1,54 @@
--- A line is judged test by test: the first that fails decides. Each law is one way through the
--- judgement; the last ones say what the bounds mean for the row. Assumes nothing.
+-- How a line stands, by the counts of the rows above it, and what the bounds mean for its row.
+-- Assumes nothing.
 use mathlib.Core.Path.{_≡_, refl}
-use mathlib.Core.Bool.{true, false}
-use Prim.Native.Nat.{ℕ, _*_, _≤_, _<_}
+use mathlib.Core.Bool.{Bool, true, false, _&&_}
+use Prim.Native.Nat.{ℕ, _*_, _≤_}
 use native.Mathlib.Omega.{arith}
-use lib.ListN.{length}
-use borrow.Author.Tests.{lt-ltb, le-ltb, eq-eqb, ne-eqb}
-use Rattle.laws.specs.Choice.{every, within}
+use lib.Dec.{eqb}
+use Rattle.laws.specs.Choice.{unless_say_else_, every}
 use Rattle.laws.specs.RoundUp.{up}
 use Rattle.laws.proofs.Choice.{within-high, every-at}
 use Rattle.units.specs.declared.Micros.{Micros}
-use Rattle.table.specs.declared.Refusal.the-variants.{Malformed, OutOfBounds, NotWhole}
-use Rattle.table.specs.Rows.{Rows, noRows}
-use Rattle.table.specs.Rules.{taskKeeps, taskFault}
+use Rattle.table.specs.declared.Refusal.the-variants.{Malformed, OutOfBounds}
+use Rattle.table.specs.declared.Table.{Table}
+use Rattle.table.specs.Rows.{Rows, rowsOf, tableOf}
+use Rattle.table.specs.Rules.{tickKeeps, taskKeeps}
 use Rattle.text.specs.declared.ServerLine.{ServerLine}
 use Rattle.text.specs.declared.TaskLine.{TaskLine}
 use Rattle.text.specs.declared.Line.the-variants.{OfTick, OfServer, OfTask, Malformed as MalformedLine}
-use Rattle.table.specs.declared.Standing.{Standing}
 use Rattle.table.specs.declared.Standing.the-variants.{Kept, Broken}
-use Rattle.text.specs.Standing.{isNil, placed, serverBounds, taskBounds, bounds, serverWhole, wholes, limitsOf, taskOf, fault, standing}
-use Rattle.reader.specs.Inner.{FewTicks}
+use Rattle.text.specs.Standing.{placed, serverBounds, bounds, wholes, taskOf, fault, standing}
+use Rattle.reader.specs.Inner.{FewTicks, tickStanding, serverStanding, taskStanding}
+use Rattle.reader.proofs.Inner.{nil-is, servers-count, tasks-count}
 use Rattle.text.proofs.Bounds.{server-within}
 
--- a `tick` line: its number and its time alone
-pub tick-placed : (n : ℕ) (u : Micros) → (n ≡ 1 → ⊥) → Broken Malformed ≡ standing n noRows (OfTick u)
-unfolding standing placed
-tick-placed n u h = rw (ne-eqb n 1 h)
-
-pub tick-bounds : (n : ℕ) (u : Micros) → n ≡ 1 → within 1 10000 (u .0) ≡ false →
-    Broken OutOfBounds ≡ standing n noRows (OfTick u)
-unfolding standing placed bounds every
-tick-bounds n u h e = rw (eq-eqb n 1 h, e)
-
-pub tick-kept : (n : ℕ) (u : Micros) → n ≡ 1 → within 1 10000 (u .0) ≡ true → Kept ≡ standing n noRows (OfTick u)
+-- what is asked of the rows above is how many there are
+pub tick-stands : (n : ℕ) (a : Rows) (u : Micros) → tickStanding n u ≡ standing n a (OfTick u)
 unfolding standing placed bounds wholes fault every
-tick-kept n u h e = rw (eq-eqb n 1 h, e)
+tick-stands n a u = go (eqb n 1) (tickKeeps (u .0))
+  where
+    go : (p b : Bool) →
+        (unless p say Broken Malformed else unless b say Broken OutOfBounds else Kept) ≡
+        (unless p say Broken Malformed else unless b && true say Broken OutOfBounds else Kept)
+    go false b = refl
+    go true true = refl
+    go true false = refl
 
-pub tick-any : (n : ℕ) (a : Rows) (u : Micros) → standing n noRows (OfTick u) ≡ standing n a (OfTick u)
-unfolding standing placed bounds wholes fault
-tick-any n a u = refl
-
--- a `server` line below m others
-pub server-first : (n : ℕ) (a : Rows) (s : ServerLine) → n ≤ 1 → Broken Malformed ≡ standing n a (OfServer s)
-unfolding standing placed
-server-first n a s h = rw (le-ltb 1 n h)
-
-pub server-late : (n : ℕ) (a : Rows) (s : ServerLine) → 1 < n → isNil (a .tasks) ≡ false →
-    Broken Malformed ≡ standing n a (OfServer s)
-unfolding standing placed
-server-late n a s h e = rw (lt-ltb 1 n h, e)
-
-module _ (n : ℕ) (a : Rows) (s : ServerLine) (m : ℕ) (count : length (a .servers) ≡ m) (h : 1 < n) (e : isNil (a .tasks) ≡ true) where
-  pub server-out : every (serverBounds m (a .tick .0) s) ≡ false → Broken OutOfBounds ≡ standing n a (OfServer s)
-  unfolding standing placed bounds
-  server-out f = rw (lt-ltb 1 n h, e, count, f)
-
-  pub server-part : every (serverBounds m (a .tick .0) s) ≡ true → every (serverWhole (a .tick .0) s) ≡ false →
-      Broken NotWhole ≡ standing n a (OfServer s)
-  unfolding standing placed bounds wholes
-  server-part f g = rw (lt-ltb 1 n h, e, count, f, g)
-
-  pub server-kept : every (serverBounds m (a .tick .0) s) ≡ true → every (serverWhole (a .tick .0) s) ≡ true →
-      Kept ≡ standing n a (OfServer s)
+module _ (n : ℕ) (t : Table) (whole : t ≡ tableOf (rowsOf t)) where
+  pub server-stands : (s : ServerLine) →
+      serverStanding n (t .tick .0) (t .nservers) (t .ntasks) s ≡ standing n (rowsOf t) (OfServer s)
   unfolding standing placed bounds wholes fault
-  server-kept f g = rw (lt-ltb 1 n h, e, count, f, g)
+  server-stands s = rw (nil-is (rowsOf t .tasks), tasks-count t whole, servers-count t whole)
 
--- a `task` line below m others
-pub task-first : (n : ℕ) (a : Rows) (k : TaskLine) → isNil (a .servers) ≡ true → Broken Malformed ≡ standing n a (OfTask k)
-unfolding standing placed
-task-first n a k e = rw e
-
-module _ (n : ℕ) (a : Rows) (k : TaskLine) (m : ℕ) (count : length (a .tasks) ≡ m) (e : isNil (a .servers) ≡ false) where
-  pub task-out : every (taskBounds m (a .tick .0) k) ≡ false → Broken OutOfBounds ≡ standing n a (OfTask k)
-  unfolding standing placed bounds
-  task-out f = rw (e, count, f)
-
-  pub task-in : (j : Standing) → every (taskBounds m (a .tick .0) k) ≡ true →
-      j ≡ taskFault (a .servers) (k .home) (k .degraded) (limitsOf (a .tick .0) (k .limit)) →
-      j ≡ standing n a (OfTask k)
+  pub task-stands : (k : TaskLine) →
+      taskStanding (t .tick .0) (t .servers) (t .nservers) (t .ntasks) k
+      ≡ standing n (rowsOf t) (OfTask k)
   unfolding standing placed bounds wholes fault every
-  task-in j f g = rw (e, count, f) g
+  task-stands k = rw (nil-is (rowsOf t .servers), servers-count t whole, tasks-count t whole)
 
--- a line without a form
-pub none-placed : (n : ℕ) (a : Rows) → Broken Malformed ≡ standing n a MalformedLine
+pub none-stands : (n : ℕ) (a : Rows) → Broken Malformed ≡ standing n a MalformedLine
 unfolding standing placed
-none-placed n a = refl
+none-stands n a = refl
 
 -- what the bounds say of the numbers of a row, in ticks
 pub record ServerFits (t : ℕ) (s : ServerLine) : Type 0 where

@@ -14,9 +14,8 @@ use text::LONGEST_TEXT;
 use text::Read;
 use text::Reading;
 ghost use mathlib.Core.Path.{_≡_};
-ghost use Prim.Native.Nat.{_+_, _≤_};
-ghost use Rattle.table.specs.Rows.{rowsOf, tableOf};
-ghost use Rattle.text.specs.Read.{refused, equal, taken, pairSaid, equalTasks, compared, ended, read, shown};
+ghost use Rattle.table.specs.Rows.{rowsOf};
+ghost use Rattle.text.specs.Read.{refused, equal, ended, read, shown};
 ghost use Rattle.reader.specs.Inner.{Above};
 
 fn refuse(why: Refusal, line: usize) -> Read
@@ -39,49 +38,32 @@ fn refuse_pair(first: usize, second: usize) -> Read
     }
 }
 
-// "then the same for tasks": tasks stand below the servers.
-fn compare_tasks(t: Table) -> Read
-    requires { ⌜ (t ≡ tableOf (rowsOf t)) × (t .nservers ≤ 32) × (t .ntasks ≤ 64) ⌝ }
-    ensures { λ r. ⌜ r ≡ shown (pairSaid (2 + t .nservers) (equalTasks (rowsOf t)) (taken (rowsOf t))) ⌝ }
-{
-    let top = 2 + t.nservers;
-    let n = t.ntasks;
-    let ks = t.tasks;
-    let xs = table::task_priorities(ks);
-    let p = table::first_pair(&xs[..n]);
-    match p {
-        Pair::Equal(i, j) => refuse_pair(top + i, top + j),
-        Pair::Differ => Read {
-            answer: Reading::Taken,
-            table: t,
-        },
-    }
-}
-
-// "5 for the first pair of server rows with equal priority": row 0 stands on line 2.
-fn compare(t: Table) -> Read
-    requires { ⌜ (t ≡ tableOf (rowsOf t)) × (t .nservers ≤ 32) × (t .ntasks ≤ 64) ⌝ }
-    ensures { λ r. ⌜ r ≡ shown (compared (rowsOf t)) ⌝ }
-{
-    let n = t.nservers;
-    let ss = t.servers;
-    let xs = table::server_priorities(ss);
-    let p = table::first_pair(&xs[..n]);
-    match p {
-        Pair::Equal(i, j) => refuse_pair(2 + i, 2 + j),
-        Pair::Differ => compare_tasks(t),
-    }
-}
-
-// The text ends before line n, t holding its rows.
+// The text ends before line n, t holding its rows. "5 for the first pair of server rows with equal
+// priority": row 0 stands on line 2. "then the same for tasks": they stand below the servers.
 fn end(n: usize, t: Table) -> Read
     requires { ⌜ Above n t ⌝ }
     ensures { λ r. ⌜ r ≡ shown (ended n (rowsOf t)) ⌝ }
 {
-    if t.ntasks == 0 {
+    let servers = t.nservers;
+    let tasks = t.ntasks;
+    if tasks == 0 {
         return refuse(Refusal::Malformed, n);
     }
-    compare(t)
+    let ss = t.servers;
+    let p = table::equal_servers(ss, servers);
+    if let Pair::Equal(i, j) = p {
+        return refuse_pair(2 + i, 2 + j);
+    }
+    let top = 2 + servers;
+    let ks = t.tasks;
+    let q = table::equal_tasks(ks, tasks);
+    if let Pair::Equal(i, j) = q {
+        return refuse_pair(top + i, top + j);
+    }
+    Read {
+        answer: Reading::Taken,
+        table: t,
+    }
 }
 
 // What a text says: its table, or why it is none. "a line begins anywhere in the lent text and is

@@ -18,7 +18,6 @@ ghost use Rattle.laws.specs.Choice.{every};
 ghost use Rattle.laws.specs.RoundUp.{up};
 ghost use Rattle.table.specs.Rows.{rowsOf, tableOf};
 ghost use Rattle.table.specs.Rules.{taskKeeps};
-ghost use Rattle.text.specs.declared.Line.the-variants.{OfServer, OfTask};
 ghost use Rattle.text.specs.Standing.{inTicks, serverOf, roundedUp, limitsOf, taskOf, serverBounds, grown};
 ghost use Rattle.reader.specs.Inner.{FewTicks, Grows};
 
@@ -91,41 +90,30 @@ fn server_row(rows: usize, tick: Micros, s: ServerLine) -> Server
     }
 }
 
-fn with_server(t: Table, s: ServerLine) -> Table
-    requires { ⌜ Grows t (OfServer s) ⌝ }
-    ensures { λ r. ⌜ r ≡ tableOf (grown (rowsOf t) (OfServer s)) ⌝ }
-{
-    let i = t.nservers;
-    let tick = t.tick;
-    let row = server_row(i, tick, s);
-    let mut o = t;
-    o.servers[i] = row;
-    o.nservers = i + 1;
-    o
-}
-
-fn with_task(t: Table, k: TaskLine) -> Table
-    requires { ⌜ Grows t (OfTask k) ⌝ }
-    ensures { λ r. ⌜ r ≡ tableOf (grown (rowsOf t) (OfTask k)) ⌝ }
-{
-    let i = t.ntasks;
-    let tick = t.tick;
-    let row = task_row(tick, k);
-    let mut o = t;
-    o.tasks[i] = row;
-    o.ntasks = i + 1;
-    o
-}
-
-// The table with the row of a line that keeps the rules.
-pub(crate) fn grow(t: Table, l: Line) -> Table
+// The table with the row of a line that keeps the rules: it is put behind those in use.
+pub(crate) fn grow(mut t: Table, l: Line) -> Table
     requires { ⌜ Grows t l ⌝ }
     ensures { λ r. ⌜ r ≡ tableOf (grown (rowsOf t) l) ⌝ }
 {
     match l {
-        Line::OfTick(u) => Table { tick: u, ..t },
-        Line::OfServer(s) => with_server(t, s),
-        Line::OfTask(k) => with_task(t, k),
+        Line::OfTick(u) => {
+            t.tick = u;
+            t
+        }
+        Line::OfServer(s) => {
+            let i = t.nservers;
+            let tick = t.tick;
+            t.servers[i] = server_row(i, tick, s);
+            t.nservers = i + 1;
+            t
+        }
+        Line::OfTask(k) => {
+            let i = t.ntasks;
+            let tick = t.tick;
+            t.tasks[i] = task_row(tick, k);
+            t.ntasks = i + 1;
+            t
+        }
         Line::Malformed => t,
     }
 }

@@ -5,6 +5,7 @@
 use crate::rows;
 use table::Refusal;
 use table::SERVERS;
+use table::Server;
 use table::Standing;
 use table::TASKS;
 use table::Table;
@@ -13,12 +14,13 @@ use text::ServerLine;
 use text::TaskLine;
 use units::Micros;
 ghost use mathlib.Core.Path.{_≡_};
+ghost use mathlib.Core.Bool.{true};
 ghost use Prim.Native.Nat.{_≤_, _<_};
 ghost use Rattle.laws.specs.Choice.{every};
-ghost use Rattle.table.specs.Rows.{rowsOf, noRows};
-ghost use Rattle.text.specs.declared.Line.the-variants.{OfTick, OfServer, OfTask};
+ghost use Rattle.table.specs.Rows.{rowsOf};
+ghost use Rattle.table.specs.Rules.{tickKeeps};
 ghost use Rattle.text.specs.Standing.{serverBounds, serverWhole, taskBounds, standing};
-ghost use Rattle.reader.specs.Inner.{Above};
+ghost use Rattle.reader.specs.Inner.{Above, tickStanding, serverStanding, taskStanding};
 
 fn server_bounds(rows: usize, tick: Micros, s: ServerLine) -> bool
     requires { ⌜ tick .0 ≤ 10000 ⌝ }
@@ -73,8 +75,9 @@ fn task_bounds(rows: usize, tick: Micros, k: TaskLine) -> bool
     laws::all_of(&[rows < TASKS, priority, n, d1, d2])
 }
 
+// What each kind of line asks of the rows above is how many there are, and a task line the servers.
 fn tick_standing(n: usize, u: Micros) -> Standing
-    ensures { λ r. ⌜ r ≡ standing n noRows (OfTick u) ⌝ }
+    ensures { λ r. ⌜ r ≡ tickStanding n u ⌝ }
 {
     if n != 1 {
         return Standing::Broken(Refusal::Malformed);
@@ -85,20 +88,17 @@ fn tick_standing(n: usize, u: Micros) -> Standing
     Standing::Kept
 }
 
-fn server_standing(n: usize, t: Table, s: ServerLine) -> Standing
-    requires { ⌜ Above n t ⌝ }
-    ensures { λ r. ⌜ r ≡ standing n (rowsOf t) (OfServer s) ⌝ }
+fn server_standing(n: usize, tick: Micros, servers: usize, tasks: usize, s: ServerLine) -> Standing
+    requires { ⌜ (1 < n → tickKeeps (tick .0) ≡ true) ⌝ }
+    ensures { λ r. ⌜ r ≡ serverStanding n (tick .0) servers tasks s ⌝ }
 {
-    let tick = t.tick;
-    let rows = t.nservers;
-    let tasks = t.ntasks;
     if n <= 1 {
         return Standing::Broken(Refusal::Malformed);
     }
-    if 0 < tasks {
+    if tasks != 0 {
         return Standing::Broken(Refusal::Malformed);
     }
-    if !server_bounds(rows, tick, s) {
+    if !server_bounds(servers, tick, s) {
         return Standing::Broken(Refusal::OutOfBounds);
     }
     if !server_whole(tick, s) {
@@ -107,22 +107,24 @@ fn server_standing(n: usize, t: Table, s: ServerLine) -> Standing
     Standing::Kept
 }
 
-fn task_standing(n: usize, t: Table, k: TaskLine) -> Standing
-    requires { ⌜ Above n t ⌝ }
-    ensures { λ r. ⌜ r ≡ standing n (rowsOf t) (OfTask k) ⌝ }
+fn task_standing(
+    tick: Micros,
+    ss: [Server; SERVERS],
+    count: usize,
+    tasks: usize,
+    k: TaskLine,
+) -> Standing
+    requires { ⌜ (0 < count → tickKeeps (tick .0) ≡ true) ⌝ }
+    ensures { λ r. ⌜ r ≡ taskStanding (tick .0) ss count tasks k ⌝ }
 {
-    let tick = t.tick;
-    let count = t.nservers;
-    let rows = t.ntasks;
     if count == 0 {
         return Standing::Broken(Refusal::Malformed);
     }
-    if !task_bounds(rows, tick, k) {
+    if !task_bounds(tasks, tick, k) {
         return Standing::Broken(Refusal::OutOfBounds);
     }
     let x = k.limit;
     let limit = rows::limits(x, tick);
-    let ss = t.servers;
     table::task_fault(ss, count, k.home, k.degraded, limit)
 }
 
@@ -133,8 +135,11 @@ pub(crate) fn line_standing(n: usize, t: Table, l: Line) -> Standing
 {
     match l {
         Line::OfTick(u) => tick_standing(n, u),
-        Line::OfServer(s) => server_standing(n, t, s),
-        Line::OfTask(k) => task_standing(n, t, k),
+        Line::OfServer(s) => server_standing(n, t.tick, t.nservers, t.ntasks, s),
+        Line::OfTask(k) => {
+            let ss = t.servers;
+            task_standing(t.tick, ss, t.nservers, t.ntasks, k)
+        }
         Line::Malformed => Standing::Broken(Refusal::Malformed),
     }
 }

@@ -1,6 +1,10 @@
 // A block: a table and a state, filled line by line, and the operation that ends it.
 
-use decimal::Number;
+use crate::line::BYTE;
+use crate::line::Fields;
+use crate::line::LARGE;
+use crate::line::WIDE;
+use crate::line::is_line;
 use run::Last;
 use run::State;
 use table::ByMode;
@@ -14,15 +18,6 @@ use table::Table;
 use table::Task;
 use units::Micros;
 use units::Ticks;
-
-// The greatest number that a field of the format may hold: 32 bits, or 8 where the table and the state hold no more.
-const WIDE: u64 = 4294967295;
-
-const BYTE: u64 = 255;
-// The greatest task, row or room that an operation may name here: 11 digits.
-const LARGE: u64 = 99999999999;
-// Stands where there is no number, past every bound.
-const NO_NUMBER: u64 = 18446744073709551615;
 
 // The rows given so far are the first servers, tasks, budgets and queues.
 pub struct Block {
@@ -43,29 +38,6 @@ pub enum Operation {
     Verdict(usize, Mode),
     Write(usize),
     Nothing,
-}
-
-fn value(line: &[u8], k: usize) -> u64 {
-    match decimal::number_in(line, k) {
-        Number::Value(v) => v,
-        Number::Bad => NO_NUMBER,
-    }
-}
-
-// Whether a line is this word and then numbers, one for each bound and within it.
-fn is_line(line: &[u8], word: &[u8], most: &[u64]) -> bool {
-    if !decimal::word_in(line, 0, word) {
-        return false;
-    }
-    if decimal::fields(line) != most.len() + 1 {
-        return false;
-    }
-    for k in 0..most.len() {
-        if most[k] < value(line, k + 1) {
-            return false;
-        }
-    }
-    true
 }
 
 fn narrow(v: u64) -> u32 {
@@ -107,31 +79,34 @@ fn last_of(any: u64, row: u64) -> Last {
 }
 
 // The last three numbers of a server line and of a task line.
-fn by_mode(line: &[u8]) -> ByMode {
+fn by_mode(f: Fields) -> ByMode {
+    let v = f.values;
     ByMode {
-        n: Ticks(narrow(value(line, 5))),
-        d1: Ticks(narrow(value(line, 6))),
-        d2: Ticks(narrow(value(line, 7))),
+        n: Ticks(narrow(v[5])),
+        d1: Ticks(narrow(v[6])),
+        d2: Ticks(narrow(v[7])),
     }
 }
 
-fn server_in(line: &[u8]) -> Server {
+fn server_in(f: Fields) -> Server {
+    let v = f.values;
     Server {
-        partition: byte(value(line, 1)),
-        kind: kind_of(value(line, 2)),
-        priority: byte(value(line, 3)),
-        period: Ticks(narrow(value(line, 4))),
-        capacity: by_mode(line),
+        partition: byte(v[1]),
+        kind: kind_of(v[2]),
+        priority: byte(v[3]),
+        period: Ticks(narrow(v[4])),
+        capacity: by_mode(f),
     }
 }
 
-fn task_in(line: &[u8]) -> Task {
+fn task_in(f: Fields) -> Task {
+    let v = f.values;
     Task {
-        home: byte(value(line, 1)),
-        degraded: byte(value(line, 2)),
-        priority: byte(value(line, 3)),
-        level: level_of(value(line, 4)),
-        limit: by_mode(line),
+        home: byte(v[1]),
+        degraded: byte(v[2]),
+        priority: byte(v[3]),
+        level: level_of(v[4]),
+        limit: by_mode(f),
     }
 }
 
@@ -220,47 +195,42 @@ pub(crate) fn is_asked(asked: Operation) -> bool {
 }
 
 // The operation that a line names, if it does.
-pub(crate) fn operation_in(line: &[u8]) -> Operation {
-    let first = value(line, 1);
-    if is_line(line, b"fresh", &[]) {
+pub(crate) fn operation_in(word: &[u8], f: Fields) -> Operation {
+    let v = f.values;
+    let first = v[1];
+    if is_line(word, f, b"fresh", &[]) {
         return Operation::Fresh;
     }
-    if is_line(line, b"release", &[LARGE]) {
+    if is_line(word, f, b"release", &[LARGE]) {
         return Operation::Release(first as usize);
     }
-    if is_line(line, b"tick", &[1]) {
+    if is_line(word, f, b"tick", &[1]) {
         return Operation::Tick(first == 1);
     }
-    if is_line(line, b"verdict", &[LARGE, 2]) {
-        return Operation::Verdict(first as usize, mode_of(value(line, 2)));
+    if is_line(word, f, b"verdict", &[LARGE, 2]) {
+        return Operation::Verdict(first as usize, mode_of(v[2]));
     }
-    if is_line(line, b"write", &[LARGE]) {
+    if is_line(word, f, b"write", &[LARGE]) {
         return Operation::Write(first as usize);
     }
     Operation::Nothing
 }
 
-fn open_table(b: Block, line: &[u8]) -> Block {
+fn open_table(b: Block, f: Fields) -> Block {
+    let v = f.values;
     if b.open {
         return broken(b);
     }
-    block_of(
-        true,
-        table_of(
-            value(line, 1),
-            value(line, 2) as usize,
-            value(line, 3) as usize,
-        ),
-    )
+    block_of(true, table_of(v[1], v[2] as usize, v[3] as usize))
 }
 
-fn add_server(b: Block, line: &[u8]) -> Block {
+fn add_server(b: Block, f: Fields) -> Block {
     let n = b.servers;
     let mut t = b.table;
     if SERVERS <= n {
         return broken(b);
     }
-    t.servers[n] = server_in(line);
+    t.servers[n] = server_in(f);
     Block {
         table: t,
         servers: n + 1,
@@ -268,13 +238,13 @@ fn add_server(b: Block, line: &[u8]) -> Block {
     }
 }
 
-fn add_task(b: Block, line: &[u8]) -> Block {
+fn add_task(b: Block, f: Fields) -> Block {
     let n = b.tasks;
     let mut t = b.table;
     if TASKS <= n {
         return broken(b);
     }
-    t.tasks[n] = task_in(line);
+    t.tasks[n] = task_in(f);
     Block {
         table: t,
         tasks: n + 1,
@@ -282,26 +252,28 @@ fn add_task(b: Block, line: &[u8]) -> Block {
     }
 }
 
-fn add_state(b: Block, line: &[u8]) -> Block {
+fn add_state(b: Block, f: Fields) -> Block {
+    let v = f.values;
     let s = b.state;
     let state = State {
-        mode: mode_of(value(line, 1)),
-        last: last_of(value(line, 4), value(line, 5)),
-        ticks: Ticks(narrow(value(line, 2))),
-        accepted: narrow(value(line, 3)),
+        mode: mode_of(v[1]),
+        last: last_of(v[4], v[5]),
+        ticks: Ticks(narrow(v[2])),
+        accepted: narrow(v[3]),
         ..s
     };
     Block { state, ..b }
 }
 
-fn add_budget(b: Block, line: &[u8]) -> Block {
+fn add_budget(b: Block, f: Fields) -> Block {
+    let v = f.values;
     let n = b.budgets;
     let mut s = b.state;
     if SERVERS <= n {
         return broken(b);
     }
-    s.used[n] = narrow(value(line, 1));
-    s.elapsed[n] = narrow(value(line, 2));
+    s.used[n] = narrow(v[1]);
+    s.elapsed[n] = narrow(v[2]);
     Block {
         state: s,
         budgets: n + 1,
@@ -309,14 +281,15 @@ fn add_budget(b: Block, line: &[u8]) -> Block {
     }
 }
 
-fn add_queue(b: Block, line: &[u8]) -> Block {
+fn add_queue(b: Block, f: Fields) -> Block {
+    let v = f.values;
     let n = b.queues;
     let mut s = b.state;
     if TASKS <= n {
         return broken(b);
     }
-    s.waiting[n] = byte(value(line, 1));
-    s.runs[n] = narrow(value(line, 2));
+    s.waiting[n] = byte(v[1]);
+    s.runs[n] = narrow(v[2]);
     Block {
         state: s,
         queues: n + 1,
@@ -325,27 +298,27 @@ fn add_queue(b: Block, line: &[u8]) -> Block {
 }
 
 // A line that is no operation. "A block begins with its `table` line."
-pub(crate) fn take_row(b: Block, line: &[u8]) -> Block {
-    if is_line(line, b"table", &[WIDE, WIDE, WIDE]) {
-        return open_table(b, line);
+pub(crate) fn take_row(b: Block, word: &[u8], f: Fields) -> Block {
+    if is_line(word, f, b"table", &[WIDE, WIDE, WIDE]) {
+        return open_table(b, f);
     }
     if !b.open {
         return broken(b);
     }
-    if is_line(line, b"server", &[BYTE, 1, BYTE, WIDE, WIDE, WIDE, WIDE]) {
-        return add_server(b, line);
+    if is_line(word, f, b"server", &[BYTE, 1, BYTE, WIDE, WIDE, WIDE, WIDE]) {
+        return add_server(b, f);
     }
-    if is_line(line, b"task", &[BYTE, BYTE, BYTE, 2, WIDE, WIDE, WIDE]) {
-        return add_task(b, line);
+    if is_line(word, f, b"task", &[BYTE, BYTE, BYTE, 2, WIDE, WIDE, WIDE]) {
+        return add_task(b, f);
     }
-    if is_line(line, b"state", &[2, WIDE, WIDE, 1, WIDE]) {
-        return add_state(b, line);
+    if is_line(word, f, b"state", &[2, WIDE, WIDE, 1, WIDE]) {
+        return add_state(b, f);
     }
-    if is_line(line, b"budget", &[WIDE, WIDE]) {
-        return add_budget(b, line);
+    if is_line(word, f, b"budget", &[WIDE, WIDE]) {
+        return add_budget(b, f);
     }
-    if is_line(line, b"queue", &[BYTE, WIDE]) {
-        return add_queue(b, line);
+    if is_line(word, f, b"queue", &[BYTE, WIDE]) {
+        return add_queue(b, f);
     }
     broken(b)
 }

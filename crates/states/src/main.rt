@@ -3,6 +3,7 @@
 
 mod answer;
 mod block;
+mod line;
 mod part;
 
 use crate::block::Block;
@@ -29,9 +30,11 @@ fn take_line(b: Block, line: &[u8]) -> Block {
     if block::is_passed_over(line) {
         return b;
     }
-    let asked = block::operation_in(line);
+    let word = line::word_of(line);
+    let f = line::fields_of(line);
+    let asked = block::operation_in(word, f);
     if !block::is_asked(asked) {
-        let taken = block::take_row(b, line);
+        let taken = block::take_row(b, word, f);
         if taken.broken {
             say(b"not in the format: ", line);
         }

@@ -1,11 +1,15 @@
 -- The first pair of equal priorities: what it is, that nothing else is it, and that there is none exactly where all differ.
--- Each of the two searches has one answer. Assumes nothing.
-use mathlib.Core.Path.{_≡_, refl, sym}
+-- Each of the two searches has one answer, and nested loops over the rows find it. Assumes nothing.
+use mathlib.Core.Path.{_≡_, refl, sym, ap, _∙_}
 use mathlib.Core.Bool.{Bool, true, false, not}
 use mathlib.Core.Logic.{inl, inr}
-use Prim.Native.Nat.{ℕ, suc, _-_, _<_}
+use mathlib.Core.List.{List}
+use Prim.Native.Nat.{ℕ, suc, _+_, _-_, _≤_, _<_, min}
 use native.Mathlib.Omega.{arith}
 use lib.Dec.{eqb}
+use lib.ListN.{length, getD, take, length-take}
+use lib.Seq.{getD-take}
+use borrow.Author.Count.{below-more}
 use borrow.Author.Tests.{eqb-true, eqb-false, eq-eqb, ne-eqb}
 use Rattle.laws.specs.declared.Found.{Found}
 use Rattle.laws.specs.declared.Found.the-variants.{At, Nothing}
@@ -16,7 +20,7 @@ use Rattle.laws.proofs.Search.{hit, miss, is-least, found-passes, found-first, 
 use Rattle.laws.proofs.Rows.{all-at, all-build}
 use Rattle.table.specs.declared.Pair.{Pair}
 use Rattle.table.specs.declared.Pair.the-variants.{Equal, Differ}
-use Rattle.table.specs.Pairs.{laterEqual, withLater, withFirst, firstPair}
+use Rattle.table.specs.Pairs.{laterEqual, withLater, withFirst, firstPair, isDiffer}
 use Rattle.table.specs.Rules.{differ}
 
 -- no two rows below n are equal
@@ -150,15 +154,94 @@ differ-pair n p e = sym (is-pair n p Differ (differ-at n p e))
 pub pair-differ : (n : ℕ) (p : ℕ → ℕ) → firstPair n p ≡ Differ → differ n p ≡ true
 pair-differ n p e = differ-build n p (pair-none n p e)
 
--- the same, as a function that goes by the pair found has it
-pub equal-differ : (n : ℕ) (p : ℕ → ℕ) (i j : ℕ) → firstPair n p ≡ Equal i j → false ≡ differ n p
-equal-differ n p i j e =
-    let f = pair-found n p i j e in
-    go (differ n p) (λ d. differ-at n p d i j (f .ordered) (f .below) (f .equal))
+-- and so the pair that is found tells it
+pub differ-found : (n : ℕ) (p : ℕ → ℕ) → isDiffer (firstPair n p) ≡ differ n p
+differ-found n p = go (firstPair n p) refl
   where
-    go : (b : Bool) → (b ≡ true → ⊥) → false ≡ b
-    go true h = absurd (h refl)
-    go false h = refl
+    no-rule : (b : Bool) → (b ≡ true → ⊥) → false ≡ b
+    no-rule true h = absurd (h refl)
+    no-rule false h = refl
 
-pub none-differ : (n : ℕ) (p : ℕ → ℕ) → firstPair n p ≡ Differ → true ≡ differ n p
-none-differ n p e = sym (pair-differ n p e)
+    go : (a : Pair) → firstPair n p ≡ a → isDiffer a ≡ differ n p
+    go Differ e = sym (pair-differ n p e)
+    go (Equal i j) e =
+        let f = pair-found n p i j e in
+        no-rule (differ n p) (λ d. differ-at n p d i j (f .ordered) (f .below) (f .equal))
+
+-- A search row by row that has come to row j after row i: no pair before it is equal.
+pub record Sought (n : ℕ) (p : ℕ → ℕ) (i j : ℕ) : Type 0 where
+  pub after : i < j
+  pub rows : (a : ℕ) → a < i → (b : ℕ) → a < b → b < n → p a ≡ p b → ⊥
+  pub row : (b : ℕ) → b < j → i < b → p i ≡ p b → ⊥
+
+module _ {n : ℕ} {p : ℕ → ℕ} where
+  pub sought-none : Sought n p 0 1
+  sought-none =
+      record {
+        after = omega arith;
+        rows = λ a h. absurd (omega arith);
+        row = λ b h k. absurd (omega arith);
+      }
+
+  pub sought-next : {i j : ℕ} → Sought n p i j → (p i ≡ p j → ⊥) → Sought n p i (j + 1)
+  sought-next {i} {j} s d =
+      record {
+        after = omega (arith, s .after);
+        rows = s .rows;
+        row = below-more (λ b. i < b → p i ≡ p b → ⊥) j (s .row) (λ h. d);
+      }
+
+  pub sought-row : {i j : ℕ} → Sought n p i j → n ≤ j → Sought n p (i + 1) (i + 1 + 1)
+  sought-row {i} s h =
+      record {
+        after = omega arith;
+        rows = below-more (λ a. (b : ℕ) → a < b → b < n → p a ≡ p b → ⊥) i (s .rows)
+            (λ b k l. s .row b (omega arith) k);
+        row = λ b k l. absurd (omega arith);
+      }
+
+  sought-all : {i j : ℕ} → Sought n p i j → n ≤ i → AllDiffer n p
+  sought-all s h a b k l = s .rows a (omega arith) b k l
+
+  sought-first : {i j : ℕ} → Sought n p i j → j < n → p i ≡ p j → IsFirst n p i j
+  sought-first s h e =
+      record {
+        ordered = s .after;
+        below = h;
+        equal = e;
+        rows = λ a b k. s .rows a k b;
+        row = λ b k l. s .row b l k;
+      }
+
+paired-cong : (n : ℕ) (p q : ℕ → ℕ) → ((i : ℕ) → i < n → p i ≡ q i) → (a : Pair) → Paired n p a →
+    Paired n q a
+paired-cong n p q e (Equal i j) w =
+    let l = w .below in
+    let k : i < n = omega (arith, w .ordered) in
+    record {
+      ordered = w .ordered;
+      below = l;
+      equal = sym (e i k) ∙ w .equal ∙ e j l;
+      rows = λ a b f g h u. w .rows a b f g h (e a (omega arith) ∙ u ∙ sym (e b h));
+      row = λ b f g u. w .row b f g (e i k ∙ u ∙ sym (e b (omega arith)));
+    }
+paired-cong n p q e Differ w = λ i j h k u. w i j h k (e i (omega arith) ∙ u ∙ sym (e j k))
+
+-- and its two ends, over the rows in use: m of the list, as many as n or the list allow
+module _ {A : Type 0} (f : A → ℕ) (d : A) (xs : List A) (n m : ℕ) (e : m ≡ min n (length xs)) where
+  in-use : (a : Pair) → Paired m (λ i. f (getD xs i d)) a →
+      a ≡ firstPair (length (take n xs)) (λ i. f (getD (take n xs) i d))
+  in-use a w =
+      rw (length-take n xs, ← e)
+      (is-pair m (λ i. f (getD (take n xs) i d)) a
+      (paired-cong m (λ i. f (getD xs i d)) (λ i. f (getD (take n xs) i d))
+      (λ i h. ap f (sym (getD-take n xs i d (omega arith)))) a w))
+
+  pub none-in-use : {i j : ℕ} → Sought m (λ i. f (getD xs i d)) i j → m ≤ i →
+      Differ ≡ firstPair (length (take n xs)) (λ i. f (getD (take n xs) i d))
+  none-in-use s h = in-use Differ (sought-all s h)
+
+  pub first-in-use : {i j : ℕ} → Sought m (λ i. f (getD xs i d)) i j → j < m →
+      f (getD xs i d) ≡ f (getD xs j d) →
+      Equal i j ≡ firstPair (length (take n xs)) (λ i. f (getD (take n xs) i d))
+  first-in-use {i} {j} s h q = in-use (Equal i j) (sought-first s h q)

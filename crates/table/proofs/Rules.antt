@@ -1,6 +1,6 @@
 -- What a table that keeps the rules says of its counts, of each row in use and of each two rows.
 -- Each is one test of the rules, at its place in the list. Assumes nothing.
-use mathlib.Core.Path.{_≡_, refl, sym, ap, _∙_}
+use mathlib.Core.Path.{_≡_, refl, ap, _∙_}
 use mathlib.Core.Bool.{Bool, true, false, not, _&&_, _||_}
 use mathlib.Core.List.{List}
 use Prim.Native.Nat.{ℕ, min, _≤_, _<_}
@@ -8,9 +8,10 @@ use native.Mathlib.Omega.{arith}
 use lib.Dec.{leb, ltb, eqb}
 use lib.ListN.{length, getD, take, length-take}
 use lib.Seq.{length-take-le, getD-take}
-use borrow.Author.Tests.{leb-true, ltb-true, ltb-false, lt-ltb, le-ltb, eqb-true}
+use borrow.Author.Tests.{leb-true, ltb-true, lt-ltb, le-ltb, eqb-true}
 use Rattle.laws.specs.Choice.{unless_say_else_, every, within}
 use Rattle.laws.specs.Rows.{allBelow}
+use Rattle.laws.proofs.Rows.{all-at}
 use Rattle.laws.proofs.Choice.{clash, and-left, and-right, every-at, within-low, within-high}
 use Rattle.table.specs.declared.ByMode.{ByMode}
 use Rattle.table.specs.declared.Refusal.{Refusal}
@@ -25,8 +26,8 @@ use Rattle.table.specs.declared.Task.{Task}
 use Rattle.table.specs.declared.Table.{Table}
 use Rattle.table.specs.Rows.{Rows, rowsOf, noServer, noTask, serverAt, taskAt, inMode, isTimed, priorityAt, periodAt, capacityAt, taskPriorityAt, limitAt}
 use Rattle.table.specs.Rules.{serverKeeps, taskKeeps, rowsThere, samePartition, degradedTimed, timedAtHome, rising, taskFault, taskStands, differ, keeps, tableKeeps}
-use Rattle.table.specs.Inner.{Sized}
-use Rattle.table.proofs.Inner.{servers-in-use, tasks-in-use, servers-at, tasks-at, column-apart}
+use Rattle.table.specs.Inner.{Sized, rowsFault}
+use Rattle.table.proofs.Inner.{all-in-use, column-apart}
 
 pub record ServerRules (t : Table) (i : ℕ) : Type 0 where
   pub partition : serverAt t i .partition ≤ 15
@@ -130,40 +131,6 @@ module _ (ss : List Server) (home degraded : ℕ) (limit : ByMode) where
       let f = unless-kept (rising limit) Falling _ (d .1) in
       record { there = a .0; partition = b .0; timed = c .0; stays = d .0; rises = f .0 }
 
-  pub no-fault : Faultless ss home degraded limit → Kept ≡ taskFault ss home degraded limit
-  unfolding taskFault
-  no-fault f = rw (f .there, f .partition, f .timed, f .stays, f .rises)
-
-  -- the test that fails is told
-  pub home-absent : ltb home (length ss) ≡ false → Broken AbsentRow ≡ taskFault ss home degraded limit
-  unfolding taskFault
-  home-absent e = rw e
-
-  pub degraded-absent : ltb home (length ss) ≡ true → ltb degraded (length ss) ≡ false →
-      Broken AbsentRow ≡ taskFault ss home degraded limit
-  unfolding taskFault
-  degraded-absent e f = rw (e, f)
-
-  module _ (there : rowsThere ss home degraded ≡ true) where
-    pub other-partition : samePartition ss home degraded ≡ false → Broken OtherPartition ≡ taskFault ss home degraded limit
-    unfolding taskFault
-    other-partition e = rw (there, e)
-
-    module _ (partition : samePartition ss home degraded ≡ true) where
-      pub not-timed : degradedTimed ss degraded ≡ false → Broken NotTimed ≡ taskFault ss home degraded limit
-      unfolding taskFault
-      not-timed e = rw (there, partition, e)
-
-      pub other-server : degradedTimed ss degraded ≡ true → timedAtHome ss home degraded ≡ false →
-          Broken OtherServer ≡ taskFault ss home degraded limit
-      unfolding taskFault
-      other-server e f = rw (there, partition, e, f)
-
-      pub falling : degradedTimed ss degraded ≡ true → timedAtHome ss home degraded ≡ true → rising limit ≡ false →
-          Broken Falling ≡ taskFault ss home degraded limit
-      unfolding taskFault
-      falling e f g = rw (there, partition, e, f, g)
-
 -- the rows that a task names are there
 both-there : (n h d : ℕ) → (ltb h n && ltb d n) ≡ true → (h < n) × (d < n)
 both-there n h d e =
@@ -189,28 +156,32 @@ stands-keeps ss k e =
     (and-left x (isKept y) e, kept-is y (and-right x (isKept y) e))
 
 -- a row below a count is the same row of the list and of its part in use
-pub in-use : (ss : List Server) (m n i : ℕ) → length ss ≡ m → (ltb i n && ltb i m) ≡ ltb i (length (take n ss))
-in-use ss m n i e = rw (length-take n ss, e) (go (ltb i n) (ltb i m) refl refl)
-  where
-    go : (a b : Bool) → ltb i n ≡ a → ltb i m ≡ b → (a && b) ≡ ltb i (min n m)
-    go true true p q = sym (lt-ltb i (min n m) (omega (arith, ltb-true i n p, ltb-true i m q)))
-    go true false p q = sym (le-ltb i (min n m) (omega (arith, ltb-false i m q)))
-    go false b p q = sym (le-ltb i (min n m) (omega (arith, ltb-false i n p)))
-
 same-row : (ss : List Server) (n i : ℕ) → i < length (take n ss) → getD (take n ss) i noServer ≡ getD ss i noServer
 same-row ss n i h = getD-take n ss i noServer (omega (arith, length-take n ss))
 
-module _ (ss : List Server) (n home degraded : ℕ) (there : rowsThere (take n ss) home degraded ≡ true) where
-  pub partition-in-use : samePartition (take n ss) home degraded ≡ samePartition ss home degraded
-  partition-in-use =
-      let r = both-there (length (take n ss)) home degraded there in
-      rw (same-row ss n home (r .0), same-row ss n degraded (r .1))
+-- 4, by the rows that are there, m of the list
+module _ (ss : List Server) (n m home degraded : ℕ) (limit : ByMode) (e : m ≡ min n (length ss)) where
+  pub home-absent : m ≤ home → Broken AbsentRow ≡ taskFault (take n ss) home degraded limit
+  unfolding taskFault
+  home-absent h = rw (le-ltb home (length (take n ss)) (omega (arith, length-take n ss)))
 
-  pub timed-in-use : degradedTimed (take n ss) degraded ≡ degradedTimed ss degraded
-  timed-in-use = rw (same-row ss n degraded (both-there (length (take n ss)) home degraded there .1))
+  pub degraded-absent : home < m → m ≤ degraded →
+      Broken AbsentRow ≡ taskFault (take n ss) home degraded limit
+  unfolding taskFault
+  degraded-absent h k =
+      rw (
+        lt-ltb home (length (take n ss)) (omega (arith, length-take n ss)),
+        le-ltb degraded (length (take n ss)) (omega (arith, length-take n ss)),
+      )
 
-  pub home-in-use : timedAtHome (take n ss) home degraded ≡ timedAtHome ss home degraded
-  home-in-use = rw (same-row ss n home (both-there (length (take n ss)) home degraded there .0))
+  pub none-absent : home < m → degraded < m →
+      rowsFault (getD ss home noServer) (getD ss degraded noServer) home degraded limit ≡
+      taskFault (take n ss) home degraded limit
+  unfolding taskFault
+  none-absent h k =
+      let x : home < length (take n ss) = omega (arith, length-take n ss) in
+      let y : degraded < length (take n ss) = omega (arith, length-take n ss) in
+      rw (lt-ltb _ _ x, lt-ltb _ _ y, same-row ss n home x, same-row ss n degraded y)
 
 -- a timed home
 at-home : (timed : Bool) (d h : ℕ) → (not timed || eqb d h) ≡ true → timed ≡ true → d ≡ h
@@ -226,6 +197,8 @@ task-rules t k l e =
     let y = stands-keeps (take n ss) x e in
     let f = faultless (take n ss) (x .home) (x .degraded) (x .limit) (ap isKept (y .1)) in
     let r = both-there (length (take n ss)) (x .home) (x .degraded) (f .there) in
+    let u = same-row ss n (x .home) (r .0) in
+    let v = same-row ss n (x .degraded) (r .1) in
     let p = task-priority x (y .0) in
     let z = x .limit in
     record {
@@ -233,10 +206,10 @@ task-rules t k l e =
       degraded = omega (arith, r .1, length-take-le n ss l);
       priority-low = within-low 1 255 (x .priority) p;
       priority-high = within-high 1 255 (x .priority) p;
-      timed = sym (timed-in-use ss n (x .home) (x .degraded) (f .there)) ∙ f .timed;
-      partition = eqb-true _ _ (sym (partition-in-use ss n (x .home) (x .degraded) (f .there)) ∙ f .partition);
+      timed = rw v at (f .timed);
+      partition = eqb-true _ _ (rw (u, v) at (f .partition));
       stays = at-home (isTimed (getD ss (x .home) noServer .kind)) (x .degraded) (x .home)
-          (sym (home-in-use ss n (x .home) (x .degraded) (f .there)) ∙ f .stays);
+          (rw u at (f .stays));
       limit-low = limits-low x (y .0);
       limit-high = limits-high x (y .0);
       rises = leb-true (z .n .0) (z .d1 .0) (and-left (leb (z .n .0) (z .d1 .0)) (leb (z .d1 .0) (z .d2 .0)) (f .rises));
@@ -279,8 +252,10 @@ table-rules t z e =
     let a = tests (rowsOf t) (rows-keep t e) in
     let l : t .nservers ≤ length (t .servers) = omega (arith, z .servers, within-high 1 32 (t .nservers) n) in
     let o : t .ntasks ≤ length (t .tasks) = omega (arith, z .tasks, within-high 1 64 (t .ntasks) m) in
-    let p = servers-in-use (t .servers) (t .nservers) l ∙ a .servers in
-    let q = tasks-in-use (t .tasks) (t .ntasks) (t .servers) (t .nservers) o ∙ a .tasks in
+    let keeps-row = taskStands (take (t .nservers) (t .servers)) in
+    let p = all-in-use (λ s. every (serverKeeps s)) noServer (t .servers) (t .nservers) l ∙
+    a .servers in
+    let q = all-in-use keeps-row noTask (t .tasks) (t .ntasks) o ∙ a .tasks in
     record {
       servers-low = within-low 1 32 (t .nservers) n;
       servers-high = within-high 1 32 (t .nservers) n;
@@ -288,8 +263,9 @@ table-rules t z e =
       tasks-high = within-high 1 64 (t .ntasks) m;
       tick-low = within-low 1 10000 (t .tick .0) (a .tick);
       tick-high = within-high 1 10000 (t .tick .0) (a .tick);
-      server = λ i h. server-rules t i (servers-at (t .servers) (t .nservers) i p h);
-      task = λ k h. task-rules t k l (tasks-at (t .tasks) (t .ntasks) (t .servers) (t .nservers) k q h);
+      server = λ i h. server-rules t i (all-at (λ k. every (serverKeeps (serverAt t k)))
+          (t .nservers) i p h);
+      task = λ k h. task-rules t k l (all-at (λ i. keeps-row (taskAt t i)) (t .ntasks) k q h);
       servers-differ = column-apart (λ s. s .priority) noServer (t .servers) (t .nservers) l (a .apart);
       tasks-differ = column-apart (λ k. k .priority) noTask (t .tasks) (t .ntasks) o (a .distinct);
     }

@@ -3,30 +3,38 @@
 -- rules.
 use mathlib.Core.Path.{_≡_}
 use mathlib.Core.Bool.{Bool}
-use mathlib.Core.List.{List, map}
+use mathlib.Core.List.{List}
 use Prim.Native.Nat.{ℕ}
+use lib.Dec.{eqb}
 use lib.ListN.{length, getD, take}
-use Rattle.laws.specs.Choice.{every}
+use Rattle.laws.specs.Choice.{unless_say_else_, every}
 use Rattle.laws.specs.Rows.{allBelow}
+use Rattle.table.specs.declared.ByMode.{ByMode}
 use Rattle.table.specs.declared.Server.{Server}
 use Rattle.table.specs.declared.Task.{Task}
 use Rattle.table.specs.declared.Table.{Table}
-use Rattle.table.specs.Rows.{noServer, noTask}
-use Rattle.table.specs.Rules.{serverKeeps, taskStands}
+use Rattle.table.specs.declared.Refusal.the-variants.{OtherPartition, NotTimed, OtherServer, Falling}
+use Rattle.table.specs.declared.Standing.{Standing}
+use Rattle.table.specs.declared.Standing.the-variants.{Kept, Broken}
+use Rattle.table.specs.Rows.{noServer, noTask, isTimed}
+use Rattle.table.specs.Rules.{serverKeeps, staysHome, rising, taskStands}
+
+-- what `taskFault` asks of the limits and of the two rows that a task names, once both are there
+abbrev pub rowsFault : Server → Server → ℕ → ℕ → ByMode → Standing
+rowsFault h d home degraded limit =
+    unless eqb (d .partition) (h .partition) say Broken OtherPartition
+    else unless isTimed (d .kind) say Broken NotTimed
+    else unless staysHome (h .kind) home degraded say Broken OtherServer
+    else unless rising limit say Broken Falling
+    else Kept
 
 -- the first n servers keep the rules of a row
-unfoldable pub serversKeep : List Server → ℕ → Bool
+abbrev pub serversKeep : List Server → ℕ → Bool
 serversKeep ss n = allBelow n (λ i. every (serverKeeps (getD ss i noServer)))
 
 -- the first m tasks keep the rules of a row, beside the first n servers
-unfoldable pub tasksKeep : List Task → ℕ → List Server → ℕ → Bool
+abbrev pub tasksKeep : List Task → ℕ → List Server → ℕ → Bool
 tasksKeep ks m ss n = allBelow m (λ k. taskStands (take n ss) (getD ks k noTask))
-
-abbrev pub serverPriorities : List Server → List ℕ
-serverPriorities = map (λ s. s .priority)
-
-abbrev pub taskPriorities : List Task → List ℕ
-taskPriorities = map (λ k. k .priority)
 
 -- every table that code holds has its arrays' lengths; a table of the definitions, whose rows are
 -- lists, is told so

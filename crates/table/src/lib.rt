@@ -4,16 +4,14 @@
 use units::Micros;
 use units::Ticks;
 ghost use mathlib.Core.Path.{_≡_};
-ghost use mathlib.Core.Bool.{_&&_};
-ghost use lib.Dec.{ltb};
-ghost use lib.ListN.{length, getD, take};
-ghost use Prim.Native.Nat.{_≤_};
+ghost use lib.ListN.{take};
+ghost use Prim.Native.Nat.{_≤_, min};
 ghost use Rattle.laws.specs.Choice.{every};
 ghost use Rattle.table.specs.Refusals.{numberOf, isKept};
 ghost use Rattle.table.specs.Rows.{inMode, largest, isTimed, isLow, isD2, noTable};
-ghost use Rattle.table.specs.Rules.{serverKeeps, taskKeeps, taskFault, taskStands, staysHome, rising, differ, tableKeeps};
-ghost use Rattle.table.specs.Inner.{serversKeep, tasksKeep, serverPriorities, taskPriorities};
-ghost use Rattle.table.specs.Pairs.{firstPair};
+ghost use Rattle.table.specs.Rules.{serverKeeps, taskKeeps, taskFault, taskStands, staysHome, rising, tableKeeps};
+ghost use Rattle.table.specs.Inner.{rowsFault, serversKeep, tasksKeep};
+ghost use Rattle.table.specs.Pairs.{isDiffer, equalServers, equalTasks};
 
 // A run holds at most so many rows of each kind.
 pub const SERVERS: usize = 32;
@@ -168,15 +166,31 @@ pub enum Pair {
     Differ,
 }
 
-// The first pair of equal priorities, rows from 0. Servers and tasks are both asked so: a caller
-// lends the priorities of its rows in use.
-pub fn first_pair(xs: &[u8]) -> Pair
-    ensures { λ r. ⌜ r ≡ firstPair (length (now (xs .entry))) (λ i. getD (now (xs .entry)) i 0) ⌝ }
+fn is_differ(p: Pair) -> bool
+    ensures { λ r. ⌜ r ≡ isDiffer p ⌝ }
 {
+    match p {
+        Pair::Equal(_, _) => false,
+        Pair::Differ => true,
+    }
+}
+
+// How many rows of an array are in use: a count handed in may be past its end.
+fn in_use(count: usize, most: usize) -> usize
+    ensures { λ r. ⌜ r ≡ min count most ⌝ }
+{
+    if count < most { count } else { most }
+}
+
+// "the first pair of server rows with equal priority", among the first count.
+pub fn equal_servers(ss: [Server; SERVERS], count: usize) -> Pair
+    ensures { λ r. ⌜ r ≡ equalServers (take count ss) ⌝ }
+{
+    let n = in_use(count, SERVERS);
     let mut answer = Pair::Differ;
-    'rows: for i in 0..xs.len() {
-        for j in i + 1..xs.len() {
-            if xs[i] == xs[j] {
+    'rows: for i in 0..n {
+        for j in i + 1..n {
+            if ss[i].priority == ss[j].priority {
                 answer = Pair::Equal(i, j);
                 break 'rows;
             }
@@ -185,36 +199,21 @@ pub fn first_pair(xs: &[u8]) -> Pair
     answer
 }
 
-// The priorities of all rows, in use or not: a caller lends the part in use.
-pub fn server_priorities(ss: [Server; SERVERS]) -> [u8; SERVERS]
-    ensures { λ r. ⌜ r ≡ serverPriorities ss ⌝ }
+// "then the same for tasks".
+pub fn equal_tasks(ks: [Task; TASKS], count: usize) -> Pair
+    ensures { λ r. ⌜ r ≡ equalTasks (take count ks) ⌝ }
 {
-    let mut r = [0u8; SERVERS];
-    for i in 0..SERVERS {
-        r[i] = ss[i].priority;
+    let n = in_use(count, TASKS);
+    let mut answer = Pair::Differ;
+    'rows: for k in 0..n {
+        for l in k + 1..n {
+            if ks[k].priority == ks[l].priority {
+                answer = Pair::Equal(k, l);
+                break 'rows;
+            }
+        }
     }
-    r
-}
-
-pub fn task_priorities(ks: [Task; TASKS]) -> [u8; TASKS]
-    ensures { λ r. ⌜ r ≡ taskPriorities ks ⌝ }
-{
-    let mut r = [0u8; TASKS];
-    for i in 0..TASKS {
-        r[i] = ks[i].priority;
-    }
-    r
-}
-
-// Whether the lent priorities differ from one another: where the search for a pair finds none.
-fn all_differ(xs: &[u8]) -> bool
-    ensures { λ r. ⌜ r ≡ differ (length (now (xs .entry))) (λ i. getD (now (xs .entry)) i 0) ⌝ }
-{
-    let p = first_pair(xs);
-    match p {
-        Pair::Equal(_, _) => false,
-        Pair::Differ => true,
-    }
+    answer
 }
 
 // The one of a mode: a match, since rows hold the three by name.
@@ -319,18 +318,33 @@ fn task_keeps(k: Task) -> bool
     laws::all_of(&[priority, n, d1, d2])
 }
 
-// Whether a row, "however great its number", is among the first count.
-fn is_there(row: u64, count: usize) -> bool
-    ensures { λ r. ⌜ r ≡ (ltb row count && ltb row 32) ⌝ }
+// What a task breaks of the rules on its limits and on the two rows that it names, its home and its
+// degraded server, or nothing: the first that applies.
+fn rows_fault(h: Server, d: Server, home: u64, degraded: u64, limit: ByMode) -> Standing
+    ensures { λ r. ⌜ r ≡ rowsFault h d home degraded limit ⌝ }
 {
-    if count as u64 <= row {
-        return false;
+    let base = h.kind;
+    let kind = d.kind;
+    let timed = is_timed(kind);
+    let stays = stays_home(base, home, degraded);
+    let rises = is_rising(limit);
+    if d.partition != h.partition {
+        return Standing::Broken(Refusal::OtherPartition);
     }
-    row < SERVERS as u64
+    if !timed {
+        return Standing::Broken(Refusal::NotTimed);
+    }
+    if !stays {
+        return Standing::Broken(Refusal::OtherServer);
+    }
+    if !rises {
+        return Standing::Broken(Refusal::Falling);
+    }
+    Standing::Kept
 }
 
-// What a task breaks of the rules on its home, its degraded server and its limits, or nothing: the
-// first that applies. The two rows are read once both are known to be there, among the first count.
+// The same, the rows being among the first count or "absent (however great its number)": they are
+// read once both are known to be there.
 pub fn task_fault(
     ss: [Server; SERVERS],
     count: usize,
@@ -340,29 +354,16 @@ pub fn task_fault(
 ) -> Standing
     ensures { λ r. ⌜ r ≡ taskFault (take count ss) home degraded limit ⌝ }
 {
-    if !is_there(home, count) {
+    let n = in_use(count, SERVERS);
+    if n as u64 <= home {
         return Standing::Broken(Refusal::AbsentRow);
     }
-    if !is_there(degraded, count) {
+    if n as u64 <= degraded {
         return Standing::Broken(Refusal::AbsentRow);
     }
     let h = ss[home as usize];
     let d = ss[degraded as usize];
-    if d.partition != h.partition {
-        return Standing::Broken(Refusal::OtherPartition);
-    }
-    let kind = d.kind;
-    if !is_timed(kind) {
-        return Standing::Broken(Refusal::NotTimed);
-    }
-    let base = h.kind;
-    if !stays_home(base, home, degraded) {
-        return Standing::Broken(Refusal::OtherServer);
-    }
-    if !is_rising(limit) {
-        return Standing::Broken(Refusal::Falling);
-    }
-    Standing::Kept
+    rows_fault(h, d, home, degraded, limit)
 }
 
 // Whether a task's row keeps the rules beside the first n servers.
@@ -423,10 +424,10 @@ pub fn table_keeps(t: Table) -> bool
     let ks = t.tasks;
     let servers = servers_keep(ss, n);
     let tasks = tasks_keep(ks, m, ss, n);
-    let sp = server_priorities(ss);
-    let tp = task_priorities(ks);
-    let apart = all_differ(&sp[..n]);
-    let distinct = all_differ(&tp[..m]);
+    let sp = equal_servers(ss, n);
+    let tp = equal_tasks(ks, m);
+    let apart = is_differ(sp);
+    let distinct = is_differ(tp);
     // The two counts are known by now; they keep their places in the rule's list.
     laws::all_of(&[ticks, true, true, servers, tasks, apart, distinct])
 }

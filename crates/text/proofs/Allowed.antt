@@ -26,6 +26,7 @@ use Rattle.table.specs.declared.Pair.{Pair}
 use Rattle.table.specs.declared.Pair.the-variants.{Equal as EqualRows, Differ}
 use Rattle.table.specs.declared.Refusal.{Refusal}
 use Rattle.table.specs.declared.Refusal.the-variants.{Malformed, OutOfBounds}
+use Rattle.table.specs.Pairs.{equalServers, equalTasks}
 use Rattle.table.proofs.Pairs.{differ-pair, pair-differ}
 use Rattle.table.specs.declared.Standing.{Standing}
 use Rattle.text.specs.declared.Line.{Line}
@@ -40,7 +41,7 @@ use Rattle.text.proofs.Refused.{inOrder}
 use Rattle.text.proofs.Standing.{not-nil, standing-keeps, keeps-standing, server-bounded, server-whole, Good, stepped, stands-first, tick-line, tick-writable, is-nil}
 use Rattle.text.specs.declared.Reading.the-variants.{Taken, Refused}
 use Rattle.text.specs.Line.{readLine}
-use Rattle.text.specs.Read.{ReadRows, taken, refused, pairSaid, equalServers, equalTasks, compared, ended, lineSaid, readFrom, read}
+use Rattle.text.specs.Read.{ReadRows, taken, refused, pairSaid, compared, ended, lineSaid, readFrom, read}
 
 abbrev pub AllWritable : List Line → Type 0
 AllWritable [] = Unit {0}
@@ -310,15 +311,16 @@ some (x ∷ xs) e = omega arith
 
 record Ended (a : Rows) : Type 0 where
   task : 1 ≤ length (a .tasks)
-  servers : equalServers a ≡ Differ
-  tasks : equalTasks a ≡ Differ
+  servers : equalServers (a .servers) ≡ Differ
+  tasks : equalTasks (a .tasks) ≡ Differ
 
 ended-taken : (n : ℕ) (a : Rows) → ended n a .answer ≡ Taken → Ended a
 unfolding ended compared
 ended-taken n a e =
     let p = unless-taken (not (isNil (a .tasks))) Malformed n (compared a) e in
-    let q = pair-taken 2 (equalServers a) (pairSaid (2 + length (a .servers)) (equalTasks a) (taken a)) (p .1) in
-    let r = pair-taken (2 + length (a .servers)) (equalTasks a) (taken a) (q .1) in
+    let tasks = pairSaid (2 + length (a .servers)) (equalTasks (a .tasks)) (taken a) in
+    let q = pair-taken 2 (equalServers (a .servers)) tasks (p .1) in
+    let r = pair-taken (2 + length (a .servers)) (equalTasks (a .tasks)) (taken a) (q .1) in
     record { task = some (a .tasks) (p .0); servers = q .0; tasks = r .0 }
 
 taken-ended : (n : ℕ) (a : Rows) → Ended a → ended n a ≡ taken a

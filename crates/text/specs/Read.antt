@@ -5,7 +5,7 @@ use mathlib.Core.Bool.{not}
 use mathlib.Core.List.{List, [], _∷_}
 use Prim.Native.Nat.{ℕ, _+_}
 use lib.Dec.{leb}
-use lib.ListN.{length, getD}
+use lib.ListN.{length}
 use Rattle.laws.specs.Choice.{unless_say_else_}
 use Rattle.decimal.specs.Lines.{lineFeed, split}
 use Rattle.table.specs.declared.Pair.{Pair}
@@ -13,8 +13,8 @@ use Rattle.table.specs.declared.Pair.the-variants.{Equal as EqualRows, Differ}
 use Rattle.table.specs.declared.Refusal.{Refusal}
 use Rattle.table.specs.declared.Refusal.the-variants.{Malformed, OutOfBounds, EqualPriorities}
 use Rattle.table.specs.Refusals.{numberOf}
-use Rattle.table.specs.Pairs.{firstPair}
-use Rattle.table.specs.Rows.{Rows, noRows, tableOf, noServer, noTask}
+use Rattle.table.specs.Pairs.{equalServers, equalTasks}
+use Rattle.table.specs.Rows.{Rows, noRows, tableOf}
 use Rattle.table.specs.declared.Standing.{Standing}
 use Rattle.table.specs.declared.Standing.the-variants.{Kept, Broken}
 use Rattle.text.specs.declared.Reading.{Reading}
@@ -55,16 +55,11 @@ abbrev pub pairSaid : ℕ → Pair → ReadRows → ReadRows
 pairSaid top (EqualRows i j) r = equal (top + i) (top + j)
 pairSaid top Differ r = r
 
-abbrev pub equalServers : Rows → Pair
-equalServers a = firstPair (length (a .servers)) (λ i. getD (a .servers) i noServer .priority)
-
-abbrev pub equalTasks : Rows → Pair
-equalTasks a = firstPair (length (a .tasks)) (λ k. getD (a .tasks) k noTask .priority)
-
 -- Servers stand below the `tick` line, tasks below the servers. "then the same for tasks"
 unfoldable pub compared : Rows → ReadRows
 compared a =
-    pairSaid 2 (equalServers a) (pairSaid (2 + length (a .servers)) (equalTasks a) (taken a))
+    pairSaid 2 (equalServers (a .servers))
+    (pairSaid (2 + length (a .servers)) (equalTasks (a .tasks)) (taken a))
 
 -- The text ends before line n. "Empty text is 1 at line 1, a missing line 1 at the line after the
 -- last": the last line is a `task` line.

@@ -19,9 +19,6 @@ abbrev μ-loop : tie.MeasureT-loop
 loop-holds : tie.Need-loop-holds Inv-loop μ-loop
 loop-holds c = (omega arith, refl)
 
-shared-slice-read-if1 : tie.Need-shared-slice-read-if1 Inv-loop μ-loop
-shared-slice-read-if1 c = search needs
-
 returns : tie.Need-returns Inv-loop μ-loop
 returns c =
     let start = c .before .before .before .before in
@@ -29,21 +26,12 @@ returns c =
     let s = start .args .s .now in
     sym (l .inv .1 ∙ digits-low s (l .i) (omega arith) (c .if1 .taken))
 
-shared-slice-read-if2 : tie.Need-shared-slice-read-if2 Inv-loop μ-loop
-shared-slice-read-if2 c = search needs
-
 returns-2 : tie.Need-returns-2 Inv-loop μ-loop
 returns-2 c =
     let start = c .before .before .before .before .before .before in
     let l = c .before .before .before .before .before .loop in
     let s = start .args .s .now in
     sym (l .inv .1 ∙ digits-high s (l .i) (omega arith) (c .if2 .taken))
-
-add-i : tie.Need-add-i Inv-loop μ-loop
-add-i c = search needs
-
-loop-less : tie.Need-loop-less Inv-loop μ-loop
-loop-less c = search needs
 
 loop-again : tie.Need-loop-again Inv-loop μ-loop
 loop-again c =
@@ -60,5 +48,5 @@ returns-3 c =
 pub are-digits-spec : {M : Type 1} → statement M
 are-digits-spec =
     tie.close
-    (tie.spec Inv-loop μ-loop loop-holds shared-slice-read-if1 returns shared-slice-read-if2 returns-2 add-i
-    loop-less loop-again returns-3)
+    (tie.spec Inv-loop μ-loop loop-holds (search needs) returns (search needs) returns-2
+    (search needs) (search needs) loop-again returns-3)

@@ -9,9 +9,6 @@ use Rattle.decimal.proofs.leads_well.Tie as tie
 returns : tie.Need-returns
 returns c = leads-none (c .before .args .s .now) (c .if1 .taken)
 
-shared-slice-read-if2 : tie.Need-shared-slice-read-if2
-shared-slice-read-if2 c = search needs
-
 returns-2 : tie.Need-returns-2
 returns-2 c = rw (ne-eqb _ _ (c .if2 .taken))
 
@@ -19,4 +16,4 @@ returns-3 : tie.Need-returns-3
 returns-3 c = rw (eq-eqb _ _ (c .if2 .left))
 
 pub leads-well-spec : {M : Type 1} → statement M
-leads-well-spec = tie.close (tie.spec returns shared-slice-read-if2 returns-2 returns-3)
+leads-well-spec = tie.close (tie.spec returns (search needs) returns-2 returns-3)

@@ -7,9 +7,6 @@ use borrow.Author.Needs.{needs}
 use Rattle.decimal.proofs.read_number.Statement.{statement}
 use Rattle.decimal.proofs.read_number.Tie as tie
 
-is-number-requires : tie.Need-is-number-requires
-is-number-requires c κs = search needs
-
 returns : tie.Need-returns
 returns c =
     read-bad
@@ -29,4 +26,4 @@ returns-2 c =
     (c .worth-of .ensures)
 
 pub read-number-spec : {M : Type 1} → statement M
-read-number-spec = tie.close (tie.spec is-number-requires returns worth-of-requires returns-2)
+read-number-spec = tie.close (tie.spec (search needs) returns worth-of-requires returns-2)

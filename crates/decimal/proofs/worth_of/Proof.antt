@@ -22,9 +22,6 @@ abbrev μ-loop : tie.MeasureT-loop
 loop-holds : tie.Need-loop-holds Inv-loop μ-loop
 loop-holds c = (omega arith, lit< tt, refl)
 
-shared-slice-read-digit : tie.Need-shared-slice-read-digit Inv-loop μ-loop
-shared-slice-read-digit c = search needs
-
 digit-requires : tie.Need-digit-requires Inv-loop μ-loop
 digit-requires c κs =
     let start = c .before .before .before .before in
@@ -45,12 +42,6 @@ add-v c =
     let m = worth-small (a .args .s .now) (l .i) (l .v) (a .pre) (omega arith) (l .inv .1) in
     record { fits = omega arith }
 
-add-i : tie.Need-add-i Inv-loop μ-loop
-add-i c = search needs
-
-loop-less : tie.Need-loop-less Inv-loop μ-loop
-loop-less c = search needs
-
 loop-again : tie.Need-loop-again Inv-loop μ-loop
 loop-again c =
     let start = c .before .before .before .before .before in
@@ -69,5 +60,5 @@ returns c =
 pub worth-of-spec : {M : Type 1} → statement M
 worth-of-spec =
     tie.close
-    (tie.spec Inv-loop μ-loop loop-holds shared-slice-read-digit digit-requires mul-v add-v add-i loop-less
-    loop-again returns)
+    (tie.spec Inv-loop μ-loop loop-holds (search needs) digit-requires mul-v add-v (search needs)
+    (search needs) loop-again returns)

@@ -25,15 +25,9 @@ Inv-loop text t₀ at₀ n₀ t at n =
 abbrev μ-loop : tie.MeasureT-loop
 μ-loop text t₀ at₀ n₀ t at n = length text - at
 
-refuse-requires : tie.Need-refuse-requires Inv-loop μ-loop
-refuse-requires c κs = tt
-
 returns : tie.Need-returns Inv-loop μ-loop
 returns c =
     c .refuse .ensures ∙ ap shown (read-long (c .before .before .before .args .text .now) (c .before .if1 .taken))
-
-no-table-requires : tie.Need-no-table-requires Inv-loop μ-loop
-no-table-requires c κs = tt
 
 loop-holds : tie.Need-loop-holds Inv-loop μ-loop
 loop-holds c = (
@@ -48,9 +42,6 @@ loop-holds c = (
 
 find-requires : tie.Need-find-requires Inv-loop μ-loop
 find-requires c κs = (omega arith, omega arith)
-
-refuse-requires-2 : tie.Need-refuse-requires-2 Inv-loop μ-loop
-refuse-requires-2 c κs = tt
 
 returns-2 : tie.Need-returns-2 Inv-loop μ-loop
 returns-2 c =
@@ -79,26 +70,8 @@ returns-3 c =
     shown
     (from-end (l .n) (rowsOf (l .t)) s (l .at) (omega arith) ∙ sym (l .inv .3) ∙ read-short s (c .before .before .before .before .before .before .if1 .left))
 
-sub-read-line : tie.Need-sub-read-line Inv-loop μ-loop
-sub-read-line c = omega arith
-
-part-read-line-start : tie.Need-part-read-line-start Inv-loop μ-loop
-part-read-line-start c = search needs
-
-part-read-line-end : tie.Need-part-read-line-end Inv-loop μ-loop
-part-read-line-end c = search needs
-
-read-line-requires : tie.Need-read-line-requires Inv-loop μ-loop
-read-line-requires c κs = tt
-
 line-standing-requires : tie.Need-line-standing-requires Inv-loop μ-loop
 line-standing-requires c κs = c .before .before .before .before .loop .inv .2
-
-enum-known-j : tie.Need-enum-known-j Inv-loop μ-loop
-enum-known-j c = search needs
-
-refuse-requires-3 : tie.Need-refuse-requires-3 Inv-loop μ-loop
-refuse-requires-3 c κs = tt
 
 returns-4 : tie.Need-returns-4 Inv-loop μ-loop
 returns-4 c =
@@ -138,12 +111,6 @@ grow-requires c κs =
     (c .before .before .before .read-line .result)
     (l .inv .2)
     (sym (c .before .before .line-standing .ensures) ∙ c .enum-told .given .1)
-
-add-at : tie.Need-add-at Inv-loop μ-loop
-add-at c = omega arith
-
-add-n : tie.Need-add-n Inv-loop μ-loop
-add-n c = omega arith
 
 loop-less : tie.Need-loop-less Inv-loop μ-loop
 loop-less c =
@@ -189,7 +156,7 @@ loop-again c =
 pub read-table-spec : {M : Type 1} → statement M
 read-table-spec =
     tie.close
-    (tie.spec Inv-loop μ-loop refuse-requires returns no-table-requires loop-holds find-requires
-    refuse-requires-2 returns-2 end-requires returns-3 sub-read-line part-read-line-start part-read-line-end
-    read-line-requires line-standing-requires enum-known-j refuse-requires-3 returns-4 enum-told grow-requires
-    add-at add-n loop-less loop-again)
+    (tie.spec Inv-loop μ-loop (λ c κs. tt) returns (λ c κs. tt) loop-holds find-requires
+    (λ c κs. tt) returns-2 end-requires returns-3 (λ c. omega arith) (search needs) (search needs)
+    (λ c κs. tt) line-standing-requires (search needs) (λ c κs. tt) returns-4 enum-told
+    grow-requires (λ c. omega arith) (λ c. omega arith) loop-less loop-again)

@@ -3,12 +3,9 @@ use Rattle.text.specs.Read.{shown}
 use Rattle.reader.proofs.refuse_pair.Statement.{statement}
 use Rattle.reader.proofs.refuse_pair.Tie as tie
 
-no-table-requires : tie.Need-no-table-requires
-no-table-requires c κs = tt
-
 returns : tie.Need-returns
 unfolding shown
 returns c = rw (c .no-table .ensures)
 
 pub refuse-pair-spec : {M : Type 1} → statement M
-refuse-pair-spec = tie.close (tie.spec no-table-requires returns)
+refuse-pair-spec = tie.close (tie.spec (λ c κs. tt) returns)

@@ -3,14 +3,8 @@ use borrow.Author.Needs.{needs}
 use Rattle.table.proofs.largest_of.Statement.{statement}
 use Rattle.table.proofs.largest_of.Tie as tie
 
-larger-of-requires : tie.Need-larger-of-requires
-larger-of-requires c κs = search needs
-
-larger-of-requires-2 : tie.Need-larger-of-requires-2
-larger-of-requires-2 c κs = search needs
-
 returns : tie.Need-returns
 returns c = rw (c .larger-of2 .ensures, c .before .larger-of .ensures)
 
 pub largest-of-spec : {M : Type 1} → statement M
-largest-of-spec = tie.close (tie.spec larger-of-requires larger-of-requires-2 returns)
+largest-of-spec = tie.close (tie.spec (search needs) (search needs) returns)

@@ -5,36 +5,6 @@ use borrow.Author.Needs.{needs}
 use Rattle.table.proofs.task_keeps.Statement.{statement}
 use Rattle.table.proofs.task_keeps.Tie as tie
 
-cast-is-within : tie.Need-cast-is-within
-cast-is-within c = search needs
-
-is-within-requires : tie.Need-is-within-requires
-is-within-requires c κs = search needs
-
-cast-is-within-2 : tie.Need-cast-is-within-2
-cast-is-within-2 c = search needs
-
-is-within-requires-2 : tie.Need-is-within-requires-2
-is-within-requires-2 c κs = search needs
-
-cast-is-within-3 : tie.Need-cast-is-within-3
-cast-is-within-3 c = search needs
-
-is-within-requires-3 : tie.Need-is-within-requires-3
-is-within-requires-3 c κs = search needs
-
-cast-is-within-4 : tie.Need-cast-is-within-4
-cast-is-within-4 c = search needs
-
-is-within-requires-4 : tie.Need-is-within-requires-4
-is-within-requires-4 c κs = search needs
-
-slice-aggregate-all-of : tie.Need-slice-aggregate-all-of
-slice-aggregate-all-of c = search needs
-
-all-of-requires : tie.Need-all-of-requires
-all-of-requires c κs = search needs
-
 returns : tie.Need-returns
 unfolding taskKeeps
 returns c = cc
@@ -42,5 +12,5 @@ returns c = cc
 pub task-keeps-spec : {M : Type 1} → statement M
 task-keeps-spec =
     tie.close
-    (tie.spec cast-is-within is-within-requires cast-is-within-2 is-within-requires-2 cast-is-within-3
-    is-within-requires-3 cast-is-within-4 is-within-requires-4 slice-aggregate-all-of all-of-requires returns)
+    (tie.spec (search needs) (search needs) (search needs) (search needs) (search needs)
+    (search needs) (search needs) (search needs) (search needs) (search needs) returns)

@@ -7,24 +7,9 @@ use Rattle.table.specs.Rules.{taskStands}
 use Rattle.table.proofs.task_stands.Statement.{statement}
 use Rattle.table.proofs.task_stands.Tie as tie
 
-task-keeps-requires : tie.Need-task-keeps-requires
-task-keeps-requires c κs = search needs
-
 returns : tie.Need-returns
 unfolding taskStands
 returns c = rw (sym (c .before .task-keeps .ensures) ∙ not-true _ (c .if1 .taken))
-
-cast-task-fault : tie.Need-cast-task-fault
-cast-task-fault c = search needs
-
-cast-task-fault-2 : tie.Need-cast-task-fault-2
-cast-task-fault-2 c = search needs
-
-task-fault-requires : tie.Need-task-fault-requires
-task-fault-requires c κs = search needs
-
-is-kept-requires : tie.Need-is-kept-requires
-is-kept-requires c κs = search needs
 
 returns-2 : tie.Need-returns-2
 unfolding taskStands
@@ -36,5 +21,5 @@ returns-2 c =
 pub task-stands-spec : {M : Type 1} → statement M
 task-stands-spec =
     tie.close
-    (tie.spec task-keeps-requires returns cast-task-fault cast-task-fault-2 task-fault-requires
-    is-kept-requires returns-2)
+    (tie.spec (search needs) returns (search needs) (search needs) (search needs) (search needs)
+    returns-2)

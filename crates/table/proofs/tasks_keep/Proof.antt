@@ -6,8 +6,8 @@ use Prim.Native.Nat.{_-_, _≤_}
 use native.Mathlib.Omega.{arith}
 use borrow.Author.Needs.{needs}
 use borrow.Author.Tests.{not-true, not-false}
+use Rattle.laws.proofs.Rows.{all-none, all-more, all-fails}
 use Rattle.table.specs.Inner.{tasksKeep}
-use Rattle.table.proofs.Inner.{tasks-none, tasks-more, tasks-fail}
 use Rattle.table.proofs.tasks_keep.Statement.{statement}
 use Rattle.table.proofs.tasks_keep.Tie as tie
 
@@ -18,36 +18,18 @@ abbrev μ-loop : tie.MeasureT-loop
 μ-loop m ss n ks i₀ i = m - i
 
 loop-holds : tie.Need-loop-holds Inv-loop μ-loop
-loop-holds c = (omega arith, tasks-none (c .args .t1) (c .args .ss) (c .args .n))
-
-mul-k : tie.Need-mul-k Inv-loop μ-loop
-mul-k c = search needs
-
-array-copy-out-k : tie.Need-array-copy-out-k Inv-loop μ-loop
-array-copy-out-k c = search needs
-
-task-stands-requires : tie.Need-task-stands-requires Inv-loop μ-loop
-task-stands-requires c κs = search needs
+loop-holds c = (omega arith, sym (all-none _))
 
 returns : tie.Need-returns Inv-loop μ-loop
 returns c =
-    let a = c .before .before .before .before .before .args in
-    tasks-fail (a .t1) (a .m) (a .ss) (a .n) (c .before .before .before .before .loop .i) (omega arith)
-    (sym (c .before .task-stands .ensures) ∙ not-true _ (c .if1 .taken))
-
-add-i : tie.Need-add-i Inv-loop μ-loop
-add-i c = search needs
-
-loop-less : tie.Need-loop-less Inv-loop μ-loop
-loop-less c = omega arith
+    let e = sym (c .before .task-stands .ensures) ∙ not-true _ (c .if1 .taken) in
+    sym (all-fails _ _ _ (omega arith) e)
 
 loop-again : tie.Need-loop-again Inv-loop μ-loop
 loop-again c =
-    let a = c .before .before .before .before .before .args in
-    let l = c .before .before .before .before .loop in (
-      omega arith,
-      tasks-more (a .t1) (a .ss) (a .n) (l .i) (l .inv .1) (sym (c .before .task-stands .ensures) ∙ not-false _ (c .if1 .left)),
-    )
+    let l = c .before .before .before .before .loop in
+    let e = sym (c .before .task-stands .ensures) ∙ not-false _ (c .if1 .left) in
+    (omega arith, all-more _ (l .i) (l .inv .1) e)
 
 returns-2 : tie.Need-returns-2 Inv-loop μ-loop
 returns-2 c =
@@ -57,5 +39,5 @@ returns-2 c =
 pub tasks-keep-spec : {M : Type 1} → statement M
 tasks-keep-spec =
     tie.close
-    (tie.spec Inv-loop μ-loop loop-holds mul-k array-copy-out-k task-stands-requires returns add-i loop-less
-    loop-again returns-2)
+    (tie.spec Inv-loop μ-loop loop-holds (search needs) (search needs) (search needs) returns
+    (search needs) (search needs) loop-again returns-2)

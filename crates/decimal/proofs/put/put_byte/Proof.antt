@@ -6,20 +6,8 @@ use Rattle.decimal.proofs.Room.{put-in, put-past}
 use Rattle.decimal.proofs.put.put_byte.Statement.{statement}
 use Rattle.decimal.proofs.put.put_byte.Tie as tie
 
-slice-write-room : tie.Need-slice-write-room
-slice-write-room c = search needs
-
-add-result : tie.Need-add-result
-add-result c = search needs
-
-same-length : tie.Need-same-length
-same-length c = search needs
-
 returns : tie.Need-returns
 returns c = let a = c .before .args in put-in (a .b) (a .room .now) (a .at) (c .if1 .taken)
-
-add-result-2 : tie.Need-add-result-2
-add-result-2 c = search needs
 
 returns-2 : tie.Need-returns-2
 returns-2 c = let a = c .before .before .args in put-past (a .b) (a .room .now) (a .at) _ (omega arith) (omega arith)
@@ -28,4 +16,7 @@ returns-3 : tie.Need-returns-3
 returns-3 c = let a = c .before .before .args in put-past (a .b) (a .room .now) (a .at) _ (omega arith) (omega arith)
 
 pub put-byte-spec : {M : Type 1} → statement M
-put-byte-spec = tie.close (tie.spec slice-write-room add-result same-length returns add-result-2 returns-2 returns-3)
+put-byte-spec =
+    tie.close
+    (tie.spec (search needs) (search needs) (search needs) returns (search needs) returns-2
+    returns-3)

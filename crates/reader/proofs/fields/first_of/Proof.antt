@@ -3,9 +3,6 @@ use borrow.Author.Needs.{needs}
 use Rattle.reader.proofs.fields.first_of.Statement.{statement}
 use Rattle.reader.proofs.fields.first_of.Tie as tie
 
-enum-known-wrong : tie.Need-enum-known-wrong
-enum-known-wrong c = search needs
-
 enum-told : tie.Need-enum-told
 enum-told c = search needs
 
@@ -16,4 +13,4 @@ returns-2 : tie.Need-returns-2
 returns-2 c = rw (c .enum-told .given .1)
 
 pub first-of-spec : {M : Type 1} → statement M
-first-of-spec = tie.close (tie.spec enum-known-wrong enum-told returns returns-2)
+first-of-spec = tie.close (tie.spec (search needs) enum-told returns returns-2)

@@ -5,20 +5,11 @@ use Rattle.reader.proofs.Inner.Fields.{read-number-field}
 use Rattle.reader.proofs.fields.read_field.Statement.{statement}
 use Rattle.reader.proofs.fields.read_field.Tie as tie
 
-read-kind-requires : tie.Need-read-kind-requires
-read-kind-requires c κs = tt
-
 returns : tie.Need-returns
 returns c = rw (eq-eqb _ 107 (c .before .if1 .taken)) (c .read-kind .ensures)
 
-read-level-requires : tie.Need-read-level-requires
-read-level-requires c κs = tt
-
 returns-2 : tie.Need-returns-2
 returns-2 c = rw (ne-eqb _ 107 (c .before .before .if1 .left), eq-eqb _ 108 (c .before .if2 .taken)) (c .read-level .ensures)
-
-read-number-requires : tie.Need-read-number-requires
-read-number-requires c κs = tt
 
 returns-3 : tie.Need-returns-3
 returns-3 c =
@@ -28,4 +19,4 @@ returns-3 c =
 pub read-field-spec : {M : Type 1} → statement M
 read-field-spec =
     tie.close
-    (tie.spec read-kind-requires returns read-level-requires returns-2 read-number-requires returns-3)
+    (tie.spec (λ c κs. tt) returns (λ c κs. tt) returns-2 (λ c κs. tt) returns-3)

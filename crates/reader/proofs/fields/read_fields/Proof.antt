@@ -29,30 +29,6 @@ loop-holds c = (omega arith, omega arith, refl)
 find-requires : tie.Need-find-requires Inv-loop μ-loop
 find-requires c κs = (omega arith, omega arith)
 
-sub-read-field : tie.Need-sub-read-field Inv-loop μ-loop
-sub-read-field c = search needs
-
-part-read-field-start : tie.Need-part-read-field-start Inv-loop μ-loop
-part-read-field-start c = search needs
-
-part-read-field-end : tie.Need-part-read-field-end Inv-loop μ-loop
-part-read-field-end c = search needs
-
-shared-slice-read-read-field : tie.Need-shared-slice-read-read-field Inv-loop μ-loop
-shared-slice-read-read-field c = search needs
-
-read-field-requires : tie.Need-read-field-requires Inv-loop μ-loop
-read-field-requires c κs = tt
-
-note-requires : tie.Need-note-requires Inv-loop μ-loop
-note-requires c κs = omega arith
-
-add-count : tie.Need-add-count Inv-loop μ-loop
-add-count c = search needs
-
-count-requires : tie.Need-count-requires Inv-loop μ-loop
-count-requires c κs = tt
-
 -- field k, read of its part of the line
 read : (c : tie.After-note Inv-loop μ-loop) →
     let f = c .before .before .before .before in
@@ -77,15 +53,6 @@ returns c =
     (pass-last (a .least) (a .line .now) (a .shape .now) (l .k) (l .at) (l .f) (f .find .result) (omega arith) (f .find .ensures .0)
     (omega arith) (omega arith))
     ∙ sym (l .inv .2)
-
-add-at : tie.Need-add-at Inv-loop μ-loop
-add-at c = search needs
-
-add-k : tie.Need-add-k Inv-loop μ-loop
-add-k c = search needs
-
-loop-less : tie.Need-loop-less Inv-loop μ-loop
-loop-less c = omega arith
 
 loop-again : tie.Need-loop-again Inv-loop μ-loop
 loop-again c =
@@ -114,6 +81,6 @@ returns-2 c =
 pub read-fields-spec : {M : Type 1} → statement M
 read-fields-spec =
     tie.close
-    (tie.spec Inv-loop μ-loop loop-holds find-requires sub-read-field part-read-field-start
-    part-read-field-end shared-slice-read-read-field read-field-requires note-requires add-count
-    count-requires returns add-at add-k loop-less loop-again returns-2)
+    (tie.spec Inv-loop μ-loop loop-holds find-requires (search needs) (search needs) (search needs)
+    (search needs) (λ c κs. tt) (λ c κs. omega arith) (search needs) (λ c κs. tt) returns
+    (search needs) (search needs) (λ c. omega arith) loop-again returns-2)

@@ -6,23 +6,11 @@ use Rattle.reader.proofs.Inner.Fields.{kind-timed, kind-event, kind-non
 use Rattle.reader.proofs.fields.read_kind.Statement.{statement}
 use Rattle.reader.proofs.fields.read_kind.Tie as tie
 
-slice-aggregate-is-same : tie.Need-slice-aggregate-is-same
-slice-aggregate-is-same c = refl
-
-is-same-requires : tie.Need-is-same-requires
-is-same-requires c κs = tt
-
 returns : tie.Need-returns
 unfolding timedWord eventWord
 returns c =
     kind-timed (c .before .before .before .before .args .s .now)
     (sym (c .before .is-same .ensures) ∙ c .if1 .taken)
-
-slice-aggregate-is-same-2 : tie.Need-slice-aggregate-is-same-2
-slice-aggregate-is-same-2 c = refl
-
-is-same-requires-2 : tie.Need-is-same-requires-2
-is-same-requires-2 c κs = tt
 
 returns-2 : tie.Need-returns-2
 unfolding timedWord eventWord
@@ -41,5 +29,4 @@ returns-3 c =
 pub read-kind-spec : {M : Type 1} → statement M
 read-kind-spec =
     tie.close
-    (tie.spec slice-aggregate-is-same is-same-requires returns slice-aggregate-is-same-2 is-same-requires-2
-    returns-2 returns-3)
+    (tie.spec (λ c. refl) (λ c κs. tt) returns (λ c. refl) (λ c κs. tt) returns-2 returns-3)

@@ -11,9 +11,6 @@ use Rattle.reader.proofs.Line.{line-alone, line-parts}
 use Rattle.reader.proofs.forms.read_line.Statement.{statement}
 use Rattle.reader.proofs.forms.read_line.Tie as tie
 
-find-requires : tie.Need-find-requires
-find-requires c κs = search needs
-
 returns : tie.Need-returns
 returns c =
     let f = c .before .find in
@@ -23,21 +20,6 @@ slice-aggregate-formed-line : tie.Need-slice-aggregate-formed-line
 slice-aggregate-formed-line c =
     let f = c .before .before in
     sym (length-take-le (f .find .result) (f .before .before .args .l .now) (f .find .ensures .1))
-
-add-formed-line : tie.Need-add-formed-line
-add-formed-line c = search needs
-
-sub-formed-line : tie.Need-sub-formed-line
-sub-formed-line c = search needs
-
-part-formed-line-start : tie.Need-part-formed-line-start
-part-formed-line-start c = search needs
-
-part-formed-line-end : tie.Need-part-formed-line-end
-part-formed-line-end c = search needs
-
-formed-line-requires : tie.Need-formed-line-requires
-formed-line-requires c κs = tt
 
 returns-2 : tie.Need-returns-2
 returns-2 c =
@@ -50,5 +32,5 @@ returns-2 c =
 pub read-line-spec : {M : Type 1} → statement M
 read-line-spec =
     tie.close
-    (tie.spec find-requires returns slice-aggregate-formed-line add-formed-line sub-formed-line
-    part-formed-line-start part-formed-line-end formed-line-requires returns-2)
+    (tie.spec (search needs) returns slice-aggregate-formed-line (search needs) (search needs)
+    (search needs) (search needs) (λ c κs. tt) returns-2)

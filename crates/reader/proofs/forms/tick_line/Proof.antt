@@ -16,15 +16,6 @@ use Rattle.reader.proofs.forms.tick_line.Tie as tie
 abbrev fields : tie.After-read-fields → List (List ℕ)
 fields c = split tab (c .before .before .before .args .rest .now)
 
-slice-aggregate-read-fields : tie.Need-slice-aggregate-read-fields
-slice-aggregate-read-fields c = refl
-
-read-fields-requires : tie.Need-read-fields-requires
-read-fields-requires c κs = omega arith
-
-is-wrong-requires : tie.Need-is-wrong-requires
-is-wrong-requires c κs = tt
-
 returns : tie.Need-returns
 unfolding tickForm
 returns c =
@@ -39,9 +30,6 @@ has-form c =
     form-has tickForm (fields r) (r .read-fields .result) (split-some tab (r .before .before .before .args .rest .now))
     (r .read-fields .ensures) (sym (c .before .is-wrong .ensures) ∙ c .if1 .left)
 
-array-read-t11 : tie.Need-array-read-t11
-array-read-t11 c = search needs
-
 returns-2 : tie.Need-returns-2
 unfolding tickForm
 returns-2 c =
@@ -52,5 +40,4 @@ returns-2 c =
 pub tick-line-spec : {M : Type 1} → statement M
 tick-line-spec =
     tie.close
-    (tie.spec slice-aggregate-read-fields read-fields-requires is-wrong-requires returns array-read-t11
-    returns-2)
+    (tie.spec (λ c. refl) (λ c κs. omega arith) (λ c κs. tt) returns (search needs) returns-2)

@@ -1,69 +1,93 @@
 -- `reader::rows::grow` meets its contract: by the line, the tick, a server or a task is put into
--- the table. Assumes nothing.
+-- the table, a row behind those in use. Assumes nothing.
 use mathlib.Core.Path.{sym, ap, _∙_, subst}
+use Prim.Native.Nat.{_<_}
+use native.Mathlib.Omega.{arith}
 use Rattle.table.specs.Rows.{rowsOf, tableOf}
+use Rattle.text.specs.declared.Line.the-variants.{OfServer, OfTask}
 use Rattle.text.specs.Standing.{grown}
+use Rattle.text.proofs.Bounds.{server-within, task-within}
+use Rattle.text.proofs.Standing.{task-keeps}
 use Rattle.reader.specs.Inner.{Grows}
-use Rattle.reader.proofs.Inner.{put-tick, put-none}
+use Rattle.reader.proofs.Inner.{put-tick, put-server, put-task, put-none}
 use borrow.Author.Needs.{needs}
 use Rattle.reader.proofs.rows.grow.Statement.{statement}
 use Rattle.reader.proofs.rows.grow.Tie as tie
 
-enum-known-l : tie.Need-enum-known-l
-enum-known-l c = search needs
+server-grows : (c : tie.After-l2) →
+    Grows (c .before .before .args .t1) (OfServer (c .l2 .given .0 .0))
+server-grows c =
+    subst (Grows (c .before .before .args .t1)) (c .l2 .given .1) (c .before .before .pre)
 
-enum-known-l-2 : tie.Need-enum-known-l-2
-enum-known-l-2 c = search needs
+task-grows : (c : tie.After-l3) → Grows (c .before .before .args .t1) (OfTask (c .l3 .given .0 .0))
+task-grows c =
+    subst (Grows (c .before .before .args .t1)) (c .l3 .given .1) (c .before .before .pre)
 
-with-server-requires : tie.Need-with-server-requires
-with-server-requires c κs =
-    let start = c .before .before .before in
-    subst (Grows (start .args .t)) (c .before .l2 .given .1) (start .pre)
+-- there is room for the row
+server-room : (c : tie.After-l2) → c .before .before .args .t1 .nservers < 32
+server-room c = server-within _ _ _ (server-grows c .2) .room
 
-enum-known-l-3 : tie.Need-enum-known-l-3
-enum-known-l-3 c = search needs
+task-room : (c : tie.After-l3) → c .before .before .args .t1 .ntasks < 64
+task-room c = task-within _ _ _ (task-grows c .1) (task-grows c .2) .room
 
-with-task-requires : tie.Need-with-task-requires
-with-task-requires c κs =
-    let start = c .before .before .before in
-    subst (Grows (start .args .t)) (c .before .l3 .given .1) (start .pre)
+server-row-requires : tie.Need-server-row-requires
+server-row-requires c κs = let g = server-grows (c .before .before) in (g .1, g .2)
 
-enum-told : tie.Need-enum-told
-enum-told c = search needs
+mul-t13 : tie.Need-mul-t13
+mul-t13 c = record { fits = omega (arith, server-room (c .before .before .before)) }
+
+element-set-from-t : tie.Need-element-set-from-t
+element-set-from-t c = server-room (c .before .before .before)
+
+add-t : tie.Need-add-t
+add-t c = record { fits = omega (arith, server-room (c .before .before .before)) }
+
+task-row-requires : tie.Need-task-row-requires
+task-row-requires c κs =
+    let g = task-grows (c .before .before) in (g .1, task-keeps _ _ _ (g .2), g .3, g .4)
+
+mul-t17 : tie.Need-mul-t17
+mul-t17 c = record { fits = omega (arith, task-room (c .before .before .before)) }
+
+element-set-from-t-2 : tie.Need-element-set-from-t-2
+element-set-from-t-2 c = task-room (c .before .before .before)
+
+add-t-2 : tie.Need-add-t-2
+add-t-2 c = record { fits = omega (arith, task-room (c .before .before .before)) }
 
 returns : tie.Need-returns
 returns c =
-    let start = c .before .before .before .before .before in
-    put-tick
-    (start .args .t)
-    (rowsOf (start .args .t))
-    (subst (Grows (start .args .t)) (c .before .before .before .l .given .1) (start .pre))
-    (c .before .before .before .l .given .0 .0)
-    ∙ ap (λ x. tableOf (grown (rowsOf (start .args .t)) x)) (sym (c .before .before .before .l .given .1))
+    let l = c .before in
+    let t = l .before .before .args .t1 in
+    put-tick t (rowsOf t) (subst (Grows t) (l .l .given .1) (l .before .before .pre))
+    (l .l .given .0 .0)
+    ∙ ap (λ x. tableOf (grown (rowsOf t) x)) (sym (l .l .given .1))
 
 returns-2 : tie.Need-returns-2
 returns-2 c =
-    let start = c .before .before .before .before in
-    c .with-server .ensures
-    ∙ ap (λ x. tableOf (grown (rowsOf (start .args .t)) x)) (sym (c .before .before .l2 .given .1))
+    let l = c .before .before .before in
+    let t = l .before .before .args .t1 in
+    put-server t (rowsOf t) (server-grows l .0) (l .l2 .given .0 .0) (c .server-row .result)
+    (server-room l) (c .server-row .ensures)
+    ∙ ap (λ x. tableOf (grown (rowsOf t) x)) (sym (l .l2 .given .1))
 
 returns-3 : tie.Need-returns-3
 returns-3 c =
-    let start = c .before .before .before .before in
-    c .with-task .ensures
-    ∙ ap (λ x. tableOf (grown (rowsOf (start .args .t)) x)) (sym (c .before .before .l3 .given .1))
+    let l = c .before .before .before in
+    let t = l .before .before .args .t1 in
+    put-task t (rowsOf t) (task-grows l .0) (l .l3 .given .0 .0) (c .task-row .result)
+    (task-room l) (c .task-row .ensures)
+    ∙ ap (λ x. tableOf (grown (rowsOf t) x)) (sym (l .l3 .given .1))
 
 returns-4 : tie.Need-returns-4
 returns-4 c =
-    let start = c .before .before in
-    put-none
-    (start .args .t)
-    (rowsOf (start .args .t))
-    (subst (Grows (start .args .t)) (c .enum-told .given .1) (start .pre))
-    ∙ ap (λ x. tableOf (grown (rowsOf (start .args .t)) x)) (sym (c .enum-told .given .1))
+    let t = c .before .before .args .t1 in
+    put-none t (rowsOf t) (subst (Grows t) (c .enum-told .given .1) (c .before .before .pre))
+    ∙ ap (λ x. tableOf (grown (rowsOf t) x)) (sym (c .enum-told .given .1))
 
 pub grow-spec : {M : Type 1} → statement M
 grow-spec =
     tie.close
-    (tie.spec enum-known-l enum-known-l-2 with-server-requires enum-known-l-3 with-task-requires enum-told
-    returns returns-2 returns-3 returns-4)
+    (tie.spec (search needs) (search needs) server-row-requires mul-t13 element-set-from-t add-t
+    (search needs) task-row-requires mul-t17 element-set-from-t-2 add-t-2 (search needs) returns
+    returns-2 returns-3 returns-4)

@@ -6,16 +6,10 @@ use Rattle.reader.proofs.RoundUp.{ticks-few}
 use Rattle.reader.proofs.rows.in_ticks.Statement.{statement}
 use Rattle.reader.proofs.rows.in_ticks.Tie as tie
 
-div-n : tie.Need-div-n
-div-n c = search needs
-
 cast-t4 : tie.Need-cast-t4
 cast-t4 c =
     let start = c .before .before in
     record { fits = omega (arith, ticks-few (start .args .u .0) (start .args .tick .0) (start .pre .0) (start .pre .1)) }
 
-returns : tie.Need-returns
-returns c = search needs
-
 pub in-ticks-spec : {M : Type 1} → statement M
-in-ticks-spec = tie.close (tie.spec div-n cast-t4 returns)
+in-ticks-spec = tie.close (tie.spec (search needs) cast-t4 (search needs))

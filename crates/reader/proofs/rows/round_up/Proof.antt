@@ -19,12 +19,6 @@ odd c =
     let start = c .before .before .before .before .before in
     up-odd (start .args .u .0) (start .args .tick .0) (start .pre .0) (c .if1 .left)
 
-div-n : tie.Need-div-n
-div-n c = search needs
-
-rem-if1 : tie.Need-rem-if1
-rem-if1 c = search needs
-
 cast-t6 : tie.Need-cast-t6
 cast-t6 c = record { fits = omega (arith, even c, c .before .before .before .before .before .pre .1) }
 
@@ -41,4 +35,6 @@ returns-2 : tie.Need-returns-2
 returns-2 c = rw (odd c)
 
 pub round-up-spec : {M : Type 1} → statement M
-round-up-spec = tie.close (tie.spec div-n rem-if1 cast-t6 returns cast-t7 add-t8 returns-2)
+round-up-spec =
+    tie.close
+    (tie.spec (search needs) (search needs) cast-t6 returns cast-t7 add-t8 returns-2)

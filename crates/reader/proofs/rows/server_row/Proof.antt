@@ -39,5 +39,5 @@ returns c =
 pub server-row-spec : {M : Type 1} → statement M
 server-row-spec =
     tie.close
-    (tie.spec in-ticks-requires in-ticks-requires-2 in-ticks-requires-3 in-ticks-requires-4 cast-t11 cast-t12
-    returns)
+    (tie.spec in-ticks-requires in-ticks-requires-2 in-ticks-requires-3 in-ticks-requires-4 cast-t11
+    cast-t12 returns)

@@ -12,12 +12,6 @@ holds c = task-fits (c .args .tick .0) (c .args .k) (c .pre .1)
 limits-requires : tie.Need-limits-requires
 limits-requires c κs = (c .before .pre .0, holds (c .before) .limits)
 
-cast-t6 : tie.Need-cast-t6
-cast-t6 c = search needs
-
-cast-t7 : tie.Need-cast-t7
-cast-t7 c = search needs
-
 cast-t8 : tie.Need-cast-t8
 cast-t8 c = record { fits = omega (arith, holds (c .before .before .before .before .before) .priority) }
 
@@ -25,4 +19,4 @@ returns : tie.Need-returns
 returns c = rw (c .before .before .before .limits .ensures)
 
 pub task-row-spec : {M : Type 1} → statement M
-task-row-spec = tie.close (tie.spec limits-requires cast-t6 cast-t7 cast-t8 returns)
+task-row-spec = tie.close (tie.spec limits-requires (search needs) (search needs) cast-t8 returns)

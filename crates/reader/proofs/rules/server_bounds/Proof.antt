@@ -6,24 +6,6 @@ use borrow.Author.Needs.{needs}
 use Rattle.reader.proofs.rules.server_bounds.Statement.{statement}
 use Rattle.reader.proofs.rules.server_bounds.Tie as tie
 
-is-within-requires : tie.Need-is-within-requires
-is-within-requires c κs = tt
-
-is-within-requires-2 : tie.Need-is-within-requires-2
-is-within-requires-2 c κs = tt
-
-mul-is-within : tie.Need-mul-is-within
-mul-is-within c = search needs
-
-is-within-requires-3 : tie.Need-is-within-requires-3
-is-within-requires-3 c κs = tt
-
-slice-aggregate-all-of : tie.Need-slice-aggregate-all-of
-slice-aggregate-all-of c = refl
-
-all-of-requires : tie.Need-all-of-requires
-all-of-requires c κs = tt
-
 returns : tie.Need-returns
 unfolding serverBounds
 returns c =
@@ -35,5 +17,5 @@ returns c =
 pub server-bounds-spec : {M : Type 1} → statement M
 server-bounds-spec =
     tie.close
-    (tie.spec is-within-requires is-within-requires-2 mul-is-within is-within-requires-3
-    slice-aggregate-all-of all-of-requires returns)
+    (tie.spec (λ c κs. tt) (λ c κs. tt) (search needs) (λ c κs. tt) (λ c. refl) (λ c κs. tt)
+    returns)

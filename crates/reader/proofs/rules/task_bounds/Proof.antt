@@ -8,27 +8,6 @@ use Rattle.text.proofs.Bounds.{limit-exactly}
 use Rattle.reader.proofs.rules.task_bounds.Statement.{statement}
 use Rattle.reader.proofs.rules.task_bounds.Tie as tie
 
-is-within-requires : tie.Need-is-within-requires
-is-within-requires c κs = tt
-
-mul-most : tie.Need-mul-most
-mul-most c = search needs
-
-is-within-requires-2 : tie.Need-is-within-requires-2
-is-within-requires-2 c κs = tt
-
-is-within-requires-3 : tie.Need-is-within-requires-3
-is-within-requires-3 c κs = tt
-
-is-within-requires-4 : tie.Need-is-within-requires-4
-is-within-requires-4 c κs = tt
-
-slice-aggregate-all-of : tie.Need-slice-aggregate-all-of
-slice-aggregate-all-of c = refl
-
-all-of-requires : tie.Need-all-of-requires
-all-of-requires c κs = tt
-
 returns : tie.Need-returns
 unfolding taskBounds taskKeeps
 returns c =
@@ -52,5 +31,5 @@ returns c =
 pub task-bounds-spec : {M : Type 1} → statement M
 task-bounds-spec =
     tie.close
-    (tie.spec is-within-requires mul-most is-within-requires-2 is-within-requires-3 is-within-requires-4
-    slice-aggregate-all-of all-of-requires returns)
+    (tie.spec (λ c κs. tt) (search needs) (λ c κs. tt) (λ c κs. tt) (λ c κs. tt) (λ c. refl)
+    (λ c κs. tt) returns)

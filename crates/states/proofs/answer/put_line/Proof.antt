@@ -12,45 +12,9 @@ Inv-loop word numbers room₀ at k₀ i₀ i-end room k i = (i ≤ i-end) × (i-
 abbrev μ-loop : tie.MeasureT-loop
 μ-loop word numbers room₀ at k₀ i₀ i-end room k i = i-end - i
 
-put-all-requires : tie.Need-put-all-requires Inv-loop μ-loop
-put-all-requires c κs = search needs
-
-loop-holds : tie.Need-loop-holds Inv-loop μ-loop
-loop-holds c = search needs
-
-put-byte-requires : tie.Need-put-byte-requires Inv-loop μ-loop
-put-byte-requires c κs = search needs
-
-mul-put-number : tie.Need-mul-put-number Inv-loop μ-loop
-mul-put-number c = search needs
-
-shared-slice-read-put-number : tie.Need-shared-slice-read-put-number Inv-loop μ-loop
-shared-slice-read-put-number c = search needs
-
-put-number-requires : tie.Need-put-number-requires Inv-loop μ-loop
-put-number-requires c κs = search needs
-
-add-i : tie.Need-add-i Inv-loop μ-loop
-add-i c = search needs
-
-loop-less : tie.Need-loop-less Inv-loop μ-loop
-loop-less c = search needs
-
-loop-again : tie.Need-loop-again Inv-loop μ-loop
-loop-again c = search needs
-
-put-byte-requires-2 : tie.Need-put-byte-requires-2 Inv-loop μ-loop
-put-byte-requires-2 c κs = search needs
-
-same-length : tie.Need-same-length Inv-loop μ-loop
-same-length c = search needs
-
-returns : tie.Need-returns Inv-loop μ-loop
-returns c = search needs
-
 pub put-line-spec : {M : Type 1} → statement M
 put-line-spec =
     tie.close
-    (tie.spec Inv-loop μ-loop put-all-requires loop-holds put-byte-requires mul-put-number
-    shared-slice-read-put-number put-number-requires add-i loop-less loop-again put-byte-requires-2
-    same-length returns)
+    (tie.spec Inv-loop μ-loop (search needs) (search needs) (search needs) (search needs)
+    (search needs) (search needs) (search needs) (search needs) (search needs) (search needs)
+    (search needs) (search needs))

@@ -12,41 +12,9 @@ Inv-loop n room₀ at s k₀ i₀ i-end room k i = (i ≤ i-end) × (i-end ≤ 6
 abbrev μ-loop : tie.MeasureT-loop
 μ-loop n room₀ at s k₀ i₀ i-end room k i = i-end - i
 
-shown-requires : tie.Need-shown-requires Inv-loop μ-loop
-shown-requires c κs = search needs
-
-loop-holds : tie.Need-loop-holds Inv-loop μ-loop
-loop-holds c = search needs
-
-element-copy-out-put-queue : tie.Need-element-copy-out-put-queue Inv-loop μ-loop
-element-copy-out-put-queue c = search needs
-
-mul-put-queue : tie.Need-mul-put-queue Inv-loop μ-loop
-mul-put-queue c = search needs
-
-element-copy-out-put-queue-2 : tie.Need-element-copy-out-put-queue-2 Inv-loop μ-loop
-element-copy-out-put-queue-2 c = search needs
-
-put-queue-requires : tie.Need-put-queue-requires Inv-loop μ-loop
-put-queue-requires c κs = search needs
-
-add-i : tie.Need-add-i Inv-loop μ-loop
-add-i c = search needs
-
-loop-less : tie.Need-loop-less Inv-loop μ-loop
-loop-less c = search needs
-
-loop-again : tie.Need-loop-again Inv-loop μ-loop
-loop-again c = search needs
-
-same-length : tie.Need-same-length Inv-loop μ-loop
-same-length c = search needs
-
-returns : tie.Need-returns Inv-loop μ-loop
-returns c = search needs
-
 pub put-queues-spec : {M : Type 1} → statement M
 put-queues-spec =
     tie.close
-    (tie.spec Inv-loop μ-loop shown-requires loop-holds element-copy-out-put-queue mul-put-queue
-    element-copy-out-put-queue-2 put-queue-requires add-i loop-less loop-again same-length returns)
+    (tie.spec Inv-loop μ-loop (search needs) (search needs) (search needs) (search needs)
+    (search needs) (search needs) (search needs) (search needs) (search needs) (search needs)
+    (search needs))

@@ -1,0 +1,54 @@
+-- `table::rows_fault` meets its contract: the four tests, in their order. Assumes nothing.
+use mathlib.Core.Path.{sym, _∙_}
+use borrow.Author.Needs.{needs}
+use borrow.Author.Tests.{eq-eqb, ne-eqb, not-true, not-false}
+use Rattle.table.proofs.rows_fault.Statement.{statement}
+use Rattle.table.proofs.rows_fault.Tie as tie
+
+returns : tie.Need-returns
+returns c = rw (ne-eqb _ _ (c .if1 .taken))
+
+returns-2 : tie.Need-returns-2
+returns-2 c =
+    let r = c .before .before .before .before in
+    rw (
+      eq-eqb _ _ (c .before .if1 .left),
+      sym (r .before .before .is-timed .ensures) ∙ not-true _ (c .if2 .taken),
+    )
+
+returns-3 : tie.Need-returns-3
+returns-3 c =
+    let r = c .before .before .before .before .before in
+    rw (
+      eq-eqb _ _ (c .before .before .if1 .left),
+      sym (r .before .before .is-timed .ensures) ∙ not-false _ (c .before .if2 .left),
+      sym (r .before .stays-home .ensures) ∙ not-true _ (c .if3 .taken),
+    )
+
+returns-4 : tie.Need-returns-4
+returns-4 c =
+    let e = c .before .before in
+    let r = e .before .before .before .before in
+    rw (
+      eq-eqb _ _ (e .before .if1 .left),
+      sym (r .before .before .is-timed .ensures) ∙ not-false _ (e .if2 .left),
+      sym (r .before .stays-home .ensures) ∙ not-false _ (c .before .if3 .left),
+      sym (r .is-rising .ensures) ∙ not-true _ (c .if4 .taken),
+    )
+
+returns-5 : tie.Need-returns-5
+returns-5 c =
+    let e = c .before .before in
+    let r = e .before .before .before .before in
+    rw (
+      eq-eqb _ _ (e .before .if1 .left),
+      sym (r .before .before .is-timed .ensures) ∙ not-false _ (e .if2 .left),
+      sym (r .before .stays-home .ensures) ∙ not-false _ (c .before .if3 .left),
+      sym (r .is-rising .ensures) ∙ not-false _ (c .if4 .left),
+    )
+
+pub rows-fault-spec : {M : Type 1} → statement M
+rows-fault-spec =
+    tie.close
+    (tie.spec (search needs) (search needs) (search needs) returns returns-2 returns-3 returns-4
+    returns-5)
