@@ -8,9 +8,6 @@ use Rattle.soundness.proofs.front_sound.Tie as tie
 returns : tie.Need-returns
 returns c = rw (c .if1 .taken)
 
-in-mode-requires : tie.Need-in-mode-requires
-in-mode-requires c κs = search needs
-
 returns-2 : tie.Need-returns-2
 returns-2 c =
     rw (
@@ -38,4 +35,4 @@ returns-4 c =
     )
 
 pub front-sound-spec : {M : Type 1} → statement M
-front-sound-spec = tie.close (tie.spec returns in-mode-requires returns-2 returns-3 returns-4)
+front-sound-spec = tie.close (tie.spec returns (λ c κs. search needs) returns-2 returns-3 returns-4)

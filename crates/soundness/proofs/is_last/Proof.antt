@@ -3,17 +3,9 @@ use borrow.Author.Needs.{needs}
 use Rattle.soundness.proofs.is_last.Statement.{statement}
 use Rattle.soundness.proofs.is_last.Tie as tie
 
-enum-told : tie.Need-enum-told
-enum-told c = search needs
-
-enum-known-last : tie.Need-enum-known-last
-enum-known-last c = search needs
-
-returns : tie.Need-returns
-returns c = search needs
-
 returns-2 : tie.Need-returns-2
 returns-2 c = rw (c .before .last .given .1)
 
 pub is-last-spec : {M : Type 1} → statement M
-is-last-spec = tie.close (tie.spec enum-told enum-known-last returns returns-2)
+is-last-spec =
+    tie.close (tie.spec (λ c. search needs) (λ c. search needs) (λ c. search needs) returns-2)

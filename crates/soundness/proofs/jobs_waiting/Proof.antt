@@ -19,21 +19,6 @@ loop-holds : tie.Need-loop-holds Inv-loop μ-loop
 unfolding sumBelow
 loop-holds c = (omega arith, omega arith, refl)
 
-array-read-job-count : tie.Need-array-read-job-count Inv-loop μ-loop
-array-read-job-count c = omega arith
-
-job-count-requires : tie.Need-job-count-requires Inv-loop μ-loop
-job-count-requires c κs = tt
-
-add-count : tie.Need-add-count Inv-loop μ-loop
-add-count c = omega arith
-
-add-k : tie.Need-add-k Inv-loop μ-loop
-add-k c = omega arith
-
-loop-less : tie.Need-loop-less Inv-loop μ-loop
-loop-less c = omega arith
-
 loop-again : tie.Need-loop-again Inv-loop μ-loop
 loop-again c =
     let l = c .before .before .loop in
@@ -51,5 +36,5 @@ returns c = let e : c .before .loop .k ≡ c .before .before .args .n = omega ar
 pub jobs-waiting-spec : {M : Type 1} → statement M
 jobs-waiting-spec =
     tie.close
-    (tie.spec Inv-loop μ-loop loop-holds array-read-job-count job-count-requires add-count add-k
-    loop-less loop-again returns)
+    (tie.spec Inv-loop μ-loop loop-holds (λ c. omega arith) (λ c κs. tt) (λ c. omega arith)
+    (λ c. omega arith) (λ c. omega arith) loop-again returns)

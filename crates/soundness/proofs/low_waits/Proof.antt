@@ -5,14 +5,8 @@ use borrow.Author.Needs.{needs}
 use Rattle.soundness.proofs.low_waits.Statement.{statement}
 use Rattle.soundness.proofs.low_waits.Tie as tie
 
-is-d2-requires : tie.Need-is-d2-requires
-is-d2-requires c κs = search needs
-
 returns : tie.Need-returns
 returns c = rw (sym (c .before .is-d2 .ensures) ∙ not-true _ (c .if1 .taken))
-
-is-low-requires : tie.Need-is-low-requires
-is-low-requires c κs = search needs
 
 returns-2 : tie.Need-returns-2
 returns-2 c =
@@ -29,4 +23,5 @@ returns-3 c =
     )
 
 pub low-waits-spec : {M : Type 1} → statement M
-low-waits-spec = tie.close (tie.spec is-d2-requires returns is-low-requires returns-2 returns-3)
+low-waits-spec =
+    tie.close (tie.spec (λ c κs. search needs) returns (λ c κs. search needs) returns-2 returns-3)

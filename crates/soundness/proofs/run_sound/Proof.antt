@@ -9,9 +9,6 @@ use borrow.Author.Needs.{needs}
 use Rattle.soundness.proofs.run_sound.Statement.{statement}
 use Rattle.soundness.proofs.run_sound.Tie as tie
 
-table-keeps-requires : tie.Need-table-keeps-requires
-table-keeps-requires c κs = search needs
-
 returns : tie.Need-returns
 returns c =
     table-breaks (c .before .before .args .t) (c .before .before .args .s)
@@ -32,12 +29,6 @@ last-sound-requires c κs = tasks-fit _ (kept (c .before .before))
 counts-sound-requires : tie.Need-counts-sound-requires
 counts-sound-requires c κs = tasks-fit _ (kept (c .before .before .before))
 
-slice-aggregate-all-of : tie.Need-slice-aggregate-all-of
-slice-aggregate-all-of c = search needs
-
-all-of-requires : tie.Need-all-of-requires
-all-of-requires c κs = search needs
-
 returns-2 : tie.Need-returns-2
 returns-2 c =
     c .all-of .ensures
@@ -54,5 +45,5 @@ returns-2 c =
 pub run-sound-spec : {M : Type 1} → statement M
 run-sound-spec =
     tie.close
-    (tie.spec table-keeps-requires returns servers-sound-requires tasks-sound-requires
-    last-sound-requires counts-sound-requires slice-aggregate-all-of all-of-requires returns-2)
+    (tie.spec (λ c κs. search needs) returns servers-sound-requires tasks-sound-requires
+    last-sound-requires counts-sound-requires (λ c. search needs) (λ c κs. search needs) returns-2)

@@ -5,19 +5,10 @@ use borrow.Author.Needs.{needs}
 use Rattle.soundness.proofs.server_sound.Statement.{statement}
 use Rattle.soundness.proofs.server_sound.Tie as tie
 
-largest-of-requires : tie.Need-largest-of-requires
-largest-of-requires c κs = search needs
-
-slice-aggregate-all-of : tie.Need-slice-aggregate-all-of
-slice-aggregate-all-of c = search needs
-
-all-of-requires : tie.Need-all-of-requires
-all-of-requires c κs = search needs
-
 returns : tie.Need-returns
 unfolding serverTests
 returns c = rw (c .all-of .ensures, c .before .before .before .largest-of .ensures)
 
 pub server-sound-spec : {M : Type 1} → statement M
 server-sound-spec =
-    tie.close (tie.spec largest-of-requires slice-aggregate-all-of all-of-requires returns)
+    tie.close (tie.spec (λ c κs. search needs) (λ c. search needs) (λ c κs. search needs) returns)

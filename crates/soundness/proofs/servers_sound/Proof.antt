@@ -22,27 +22,6 @@ abbrev μ-loop : tie.MeasureT-loop
 loop-holds : tie.Need-loop-holds Inv-loop μ-loop
 loop-holds c = (omega arith, sym (all-none _))
 
-mul-row : tie.Need-mul-row Inv-loop μ-loop
-mul-row c = omega arith
-
-element-copy-out-row : tie.Need-element-copy-out-row Inv-loop μ-loop
-element-copy-out-row c = omega arith
-
-mul-server-sound : tie.Need-mul-server-sound Inv-loop μ-loop
-mul-server-sound c = omega arith
-
-element-copy-out-server-sound : tie.Need-element-copy-out-server-sound Inv-loop μ-loop
-element-copy-out-server-sound c = omega arith
-
-mul-server-sound-2 : tie.Need-mul-server-sound-2 Inv-loop μ-loop
-mul-server-sound-2 c = omega arith
-
-element-copy-out-server-sound-2 : tie.Need-element-copy-out-server-sound-2 Inv-loop μ-loop
-element-copy-out-server-sound-2 c = omega arith
-
-server-sound-requires : tie.Need-server-sound-requires Inv-loop μ-loop
-server-sound-requires c κs = tt
-
 returns : tie.Need-returns Inv-loop μ-loop
 returns c =
     let a = c .before .before .before .before .before .before .before .args in
@@ -51,12 +30,6 @@ returns c =
     (all-fails (λ j. every (soundServer (a .t1) (a .t2) j)) (a .t1 .nservers) i
     (c .before .before .before .before .before .loop-test .taken)
     (server-tests (a .t1) (a .t2) i ∙ sym (c .before .server-sound .ensures) ∙ not-true _ (c .if1 .taken)))
-
-add-i : tie.Need-add-i Inv-loop μ-loop
-add-i c = omega arith
-
-loop-less : tie.Need-loop-less Inv-loop μ-loop
-loop-less c = omega arith
 
 loop-again : tie.Need-loop-again Inv-loop μ-loop
 loop-again c =
@@ -75,6 +48,6 @@ returns-2 c =
 pub servers-sound-spec : {M : Type 1} → statement M
 servers-sound-spec =
     tie.close
-    (tie.spec Inv-loop μ-loop loop-holds mul-row element-copy-out-row mul-server-sound
-    element-copy-out-server-sound mul-server-sound-2 element-copy-out-server-sound-2
-    server-sound-requires returns add-i loop-less loop-again returns-2)
+    (tie.spec Inv-loop μ-loop loop-holds (λ c. omega arith) (λ c. omega arith) (λ c. omega arith)
+    (λ c. omega arith) (λ c. omega arith) (λ c. omega arith) (λ c κs. tt) returns (λ c. omega arith)
+    (λ c. omega arith) loop-again returns-2)

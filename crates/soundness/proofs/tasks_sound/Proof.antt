@@ -22,27 +22,6 @@ abbrev μ-loop : tie.MeasureT-loop
 loop-holds : tie.Need-loop-holds Inv-loop μ-loop
 loop-holds c = (omega arith, sym (all-none _))
 
-mul-row : tie.Need-mul-row Inv-loop μ-loop
-mul-row c = omega arith
-
-element-copy-out-row : tie.Need-element-copy-out-row Inv-loop μ-loop
-element-copy-out-row c = omega arith
-
-is-last-requires : tie.Need-is-last-requires Inv-loop μ-loop
-is-last-requires c κs = tt
-
-element-copy-out-task-sound : tie.Need-element-copy-out-task-sound Inv-loop μ-loop
-element-copy-out-task-sound c = omega arith
-
-mul-task-sound : tie.Need-mul-task-sound Inv-loop μ-loop
-mul-task-sound c = omega arith
-
-element-copy-out-task-sound-2 : tie.Need-element-copy-out-task-sound-2 Inv-loop μ-loop
-element-copy-out-task-sound-2 c = omega arith
-
-task-sound-requires : tie.Need-task-sound-requires Inv-loop μ-loop
-task-sound-requires c κs = tt
-
 returns : tie.Need-returns Inv-loop μ-loop
 returns c =
     let a = c .before .before .before .before .before .before .before .before .args in
@@ -53,12 +32,6 @@ returns c =
     (task-tests (a .t1) (a .t2) k
     ∙ rw (← c .before .before .before .before .is-last .ensures)
     (sym (c .before .task-sound .ensures) ∙ not-true _ (c .if1 .taken))))
-
-add-k : tie.Need-add-k Inv-loop μ-loop
-add-k c = omega arith
-
-loop-less : tie.Need-loop-less Inv-loop μ-loop
-loop-less c = omega arith
 
 loop-again : tie.Need-loop-again Inv-loop μ-loop
 loop-again c =
@@ -79,6 +52,6 @@ returns-2 c =
 pub tasks-sound-spec : {M : Type 1} → statement M
 tasks-sound-spec =
     tie.close
-    (tie.spec Inv-loop μ-loop loop-holds mul-row element-copy-out-row is-last-requires
-    element-copy-out-task-sound mul-task-sound element-copy-out-task-sound-2 task-sound-requires
-    returns add-k loop-less loop-again returns-2)
+    (tie.spec Inv-loop μ-loop loop-holds (λ c. omega arith) (λ c. omega arith) (λ c κs. tt)
+    (λ c. omega arith) (λ c. omega arith) (λ c. omega arith) (λ c κs. tt) returns (λ c. omega arith)
+    (λ c. omega arith) loop-again returns-2)

@@ -48,9 +48,6 @@ add-next c =
           );
     }
 
-cast-t11 : tie.Need-cast-t11 Inv-loop μ-loop
-cast-t11 c = search needs
-
 returns : tie.Need-returns Inv-loop μ-loop
 returns c =
     let a = c .before .before .before .before .args in
@@ -69,9 +66,6 @@ returns c =
     (omega arith)
     (omega arith)
     (l .inv .1)
-
-loop-less : tie.Need-loop-less Inv-loop μ-loop
-loop-less c = omega arith
 
 loop-again : tie.Need-loop-again Inv-loop μ-loop
 loop-again c =
@@ -102,5 +96,5 @@ returns-2 c =
 pub climb-spec : {M : Type 1} → statement M
 climb-spec =
     tie.close
-    (tie.spec Inv-loop μ-loop loop-holds interference-in-requires add-next cast-t11 returns
-    loop-less loop-again returns-2)
+    (tie.spec Inv-loop μ-loop loop-holds interference-in-requires add-next (λ c. search needs)
+    returns (λ c. omega arith) loop-again returns-2)

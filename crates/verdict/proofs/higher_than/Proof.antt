@@ -53,15 +53,6 @@ mul-s c = omega (arith, few (c .before .before))
 element-copy-out-s : tie.Need-element-copy-out-s Inv-loop μ-loop
 element-copy-out-s c = omega (arith, few (c .before .before))
 
-in-mode-requires : tie.Need-in-mode-requires Inv-loop μ-loop
-in-mode-requires c κs = search needs
-
-add-i : tie.Need-add-i Inv-loop μ-loop
-add-i c = search needs
-
-loop-less : tie.Need-loop-less Inv-loop μ-loop
-loop-less c = search needs
-
 loop-again : tie.Need-loop-again Inv-loop μ-loop
 loop-again c =
     let d = c .before .before in
@@ -109,12 +100,6 @@ array-write-late c = room (c .before .before .before .before .before .before .be
 add-count : tie.Need-add-count Inv-loop μ-loop
 add-count c = omega (arith, room (c .before .before .before .before .before .before .before))
 
-add-i-2 : tie.Need-add-i-2 Inv-loop μ-loop
-add-i-2 c = search needs
-
-loop-less-2 : tie.Need-loop-less-2 Inv-loop μ-loop
-loop-less-2 c = search needs
-
 loop-again-2 : tie.Need-loop-again-2 Inv-loop μ-loop
 loop-again-2 c =
     let d = c .before .before .before .before in
@@ -144,6 +129,6 @@ pub higher-than-spec : {M : Type 1} → statement M
 higher-than-spec =
     tie.close
     (tie.spec Inv-loop μ-loop mul-priority element-copy-out-priority loop-holds mul-s
-    element-copy-out-s in-mode-requires add-i loop-less loop-again mul-periods array-write-periods
-    mul-capacities array-write-capacities late-of-requires mul-late array-write-late add-count
-    add-i-2 loop-less-2 loop-again-2 returns)
+    element-copy-out-s (λ c κs. search needs) (λ c. search needs) (λ c. search needs) loop-again
+    mul-periods array-write-periods mul-capacities array-write-capacities late-of-requires mul-late
+    array-write-late add-count (λ c. search needs) (λ c. search needs) loop-again-2 returns)

@@ -92,12 +92,6 @@ mul-sum-2 c = record { fits = omega (arith, small (c .before)) }
 add-sum : tie.Need-add-sum Inv-loop μ-loop
 add-sum c = record { fits = omega (arith, small (c .before)) }
 
-add-i : tie.Need-add-i Inv-loop μ-loop
-add-i c = search needs
-
-loop-less : tie.Need-loop-less Inv-loop μ-loop
-loop-less c = search needs
-
 loop-again : tie.Need-loop-again Inv-loop μ-loop
 loop-again c = (omega arith, next (c .before))
 
@@ -111,4 +105,4 @@ interference-in-spec =
     tie.close
     (tie.spec Inv-loop μ-loop loop-holds mul-round-up element-copy-out-round-up add-round-up
     mul-round-up-2 element-copy-out-round-up-2 round-up-requires mul-sum element-copy-out-sum
-    mul-sum-2 add-sum add-i loop-less loop-again returns)
+    mul-sum-2 add-sum (λ c. search needs) (λ c. search needs) loop-again returns)

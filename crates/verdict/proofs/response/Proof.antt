@@ -28,17 +28,11 @@ mul-s c = omega (arith, few c)
 element-copy-out-s : tie.Need-element-copy-out-s
 element-copy-out-s c = omega (arith, few c)
 
-in-mode-requires : tie.Need-in-mode-requires
-in-mode-requires c κs = search needs
-
 returns : tie.Need-returns
 returns c =
     let a = c .before .before .before .before .args in
     response-zero (a .t1) (a .m) (a .row) (c .before .in-mode .result .0)
     (ap (λ (x : Ticks). x .0) (c .before .in-mode .ensures)) (c .if1 .taken)
-
-higher-than-requires : tie.Need-higher-than-requires
-higher-than-requires c κs = search needs
 
 climb-requires : tie.Need-climb-requires
 climb-requires c κs =
@@ -69,5 +63,5 @@ returns-2 c =
 pub response-spec : {M : Type 1} → statement M
 response-spec =
     tie.close
-    (tie.spec mul-s element-copy-out-s in-mode-requires returns higher-than-requires climb-requires
-    returns-2)
+    (tie.spec mul-s element-copy-out-s (λ c κs. search needs) returns (λ c κs. search needs)
+    climb-requires returns-2)

@@ -5,18 +5,10 @@ use Rattle.laws.specs.RoundUp.{up}
 use Rattle.verdict.proofs.round_up.Statement.{statement}
 use Rattle.verdict.proofs.round_up.Tie as tie
 
-sub-result : tie.Need-sub-result
-sub-result c = search needs
-
-add-result : tie.Need-add-result
-add-result c = search needs
-
-div-result : tie.Need-div-result
-div-result c = search needs
-
 returns : tie.Need-returns
 unfolding up
 returns c = search needs
 
 pub round-up-spec : {M : Type 1} → statement M
-round-up-spec = tie.close (tie.spec sub-result add-result div-result returns)
+round-up-spec =
+    tie.close (tie.spec (λ c. search needs) (λ c. search needs) (λ c. search needs) returns)

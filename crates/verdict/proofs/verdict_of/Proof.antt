@@ -30,9 +30,6 @@ size c =
       tasks = sym (length-map (c .args .t .tasks) _) ∙ c .good .0 .1 .1 .1 .1 .1 .1 .0 .1 .0 .1;
     }
 
-table-keeps-requires : tie.Need-table-keeps-requires
-table-keeps-requires c κs = search needs
-
 returns : tie.Need-returns
 returns c =
     let a = c .before .before .args in
@@ -45,9 +42,6 @@ returns-2 c =
 
 response-requires : tie.Need-response-requires
 response-requires c κs = (sound (c .before .before), there c)
-
-enum-known-r : tie.Need-enum-known-r
-enum-known-r c = search needs
 
 cast-t11 : tie.Need-cast-t11
 cast-t11 c =
@@ -63,9 +57,6 @@ cast-t11 c =
             table-rules (a .t) (size b) (sound (d .before .before)) .server (a .row) (there d) .period-high,
           );
     }
-
-enum-told : tie.Need-enum-told
-enum-told c = search needs
 
 returns-3 : tie.Need-returns-3
 returns-3 c =
@@ -86,5 +77,5 @@ returns-4 c =
 pub verdict-of-spec : {M : Type 1} → statement M
 verdict-of-spec =
     tie.close
-    (tie.spec table-keeps-requires returns returns-2 response-requires enum-known-r cast-t11
-    enum-told returns-3 returns-4)
+    (tie.spec (λ c κs. search needs) returns returns-2 response-requires (λ c. search needs)
+    cast-t11 (λ c. search needs) returns-3 returns-4)

@@ -7,17 +7,11 @@ use borrow.Author.Needs.{needs}
 use Rattle.writer.proofs.in_micros.Statement.{statement}
 use Rattle.writer.proofs.in_micros.Tie as tie
 
-cast-t3 : tie.Need-cast-t3
-cast-t3 c = search needs
-
 mul-t4 : tie.Need-mul-t4
 mul-t4 c =
     let a = c .before .before .args in
     let h : a .x .0 ≤ 4294967296 = omega (arith, c .before .struct-known .given) in
     record { fits = omega (arith, mul-le-mul h (c .before .before .pre)) }
 
-returns : tie.Need-returns
-returns c = search needs
-
 pub in-micros-spec : {M : Type 1} → statement M
-in-micros-spec = tie.close (tie.spec cast-t3 mul-t4 returns)
+in-micros-spec = tie.close (tie.spec (λ c. search needs) mul-t4 (λ c. search needs))

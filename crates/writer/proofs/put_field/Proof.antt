@@ -7,15 +7,6 @@ use borrow.Author.Needs.{needs}
 use Rattle.writer.proofs.put_field.Statement.{statement}
 use Rattle.writer.proofs.put_field.Tie as tie
 
-put-number-requires : tie.Need-put-number-requires
-put-number-requires c κs = search needs
-
-put-byte-requires : tie.Need-put-byte-requires
-put-byte-requires c κs = search needs
-
-same-length : tie.Need-same-length
-same-length c = search needs
-
 returns : tie.Need-returns
 returns c =
     let b = c .before .before in
@@ -23,4 +14,5 @@ returns c =
     put-more (digits (n .before .before .before .args .n)) (tab ∷ []) (n .put-number .ensures) (b .put-byte .ensures)
 
 pub put-field-spec : {M : Type 1} → statement M
-put-field-spec = tie.close (tie.spec put-number-requires put-byte-requires same-length returns)
+put-field-spec =
+    tie.close (tie.spec (λ c κs. search needs) (λ c κs. search needs) (λ c. search needs) returns)

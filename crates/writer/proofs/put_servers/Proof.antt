@@ -38,12 +38,6 @@ put-server-requires c κs =
     short-tick (c .before .before .before .before .before .before .args .t1)
     (c .before .before .before .before .before .before .pre)
 
-add-i : tie.Need-add-i Inv-loop μ-loop
-add-i c = search needs
-
-loop-less : tie.Need-loop-less Inv-loop μ-loop
-loop-less c = omega arith
-
 loop-again : tie.Need-loop-again Inv-loop μ-loop
 loop-again c =
     let l = c .before .before .before .before .before .before in
@@ -72,5 +66,5 @@ returns c =
 pub put-servers-spec : {M : Type 1} → statement M
 put-servers-spec =
     tie.close
-    (tie.spec Inv-loop μ-loop loop-holds mul-s element-copy-out-s put-server-requires add-i loop-less
-    loop-again same-length returns)
+    (tie.spec Inv-loop μ-loop loop-holds mul-s element-copy-out-s put-server-requires
+    (λ c. search needs) (λ c. omega arith) loop-again same-length returns)

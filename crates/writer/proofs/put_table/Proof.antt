@@ -9,27 +9,6 @@ use borrow.Author.Needs.{needs}
 use Rattle.writer.proofs.put_table.Statement.{statement}
 use Rattle.writer.proofs.put_table.Tie as tie
 
-slice-aggregate-put-all : tie.Need-slice-aggregate-put-all
-slice-aggregate-put-all c = search needs
-
-put-all-requires : tie.Need-put-all-requires
-put-all-requires c κs = search needs
-
-put-number-requires : tie.Need-put-number-requires
-put-number-requires c κs = search needs
-
-put-byte-requires : tie.Need-put-byte-requires
-put-byte-requires c κs = search needs
-
-put-servers-requires : tie.Need-put-servers-requires
-put-servers-requires c κs = search needs
-
-put-tasks-requires : tie.Need-put-tasks-requires
-put-tasks-requires c κs = search needs
-
-same-length : tie.Need-same-length
-same-length c = search needs
-
 returns : tie.Need-returns
 unfolding writeLine fieldsOf tickWord
 returns c =
@@ -47,5 +26,6 @@ returns c =
 pub put-table-spec : {M : Type 1} → statement M
 put-table-spec =
     tie.close
-    (tie.spec slice-aggregate-put-all put-all-requires put-number-requires put-byte-requires
-    put-servers-requires put-tasks-requires same-length returns)
+    (tie.spec (λ c. search needs) (λ c κs. search needs) (λ c κs. search needs)
+    (λ c κs. search needs) (λ c κs. search needs) (λ c κs. search needs) (λ c. search needs)
+    returns)

@@ -9,42 +9,12 @@ use borrow.Author.Needs.{needs}
 use Rattle.writer.proofs.put_task.Statement.{statement}
 use Rattle.writer.proofs.put_task.Tie as tie
 
-slice-aggregate-put-all : tie.Need-slice-aggregate-put-all
-slice-aggregate-put-all c = search needs
-
-put-all-requires : tie.Need-put-all-requires
-put-all-requires c κs = search needs
-
-cast-put-field : tie.Need-cast-put-field
-cast-put-field c = search needs
-
-put-field-requires : tie.Need-put-field-requires
-put-field-requires c κs = search needs
-
-cast-put-field-2 : tie.Need-cast-put-field-2
-cast-put-field-2 c = search needs
-
-put-field-requires-2 : tie.Need-put-field-requires-2
-put-field-requires-2 c κs = search needs
-
-cast-put-field-3 : tie.Need-cast-put-field-3
-cast-put-field-3 c = search needs
-
-put-field-requires-3 : tie.Need-put-field-requires-3
-put-field-requires-3 c κs = search needs
-
-put-level-requires : tie.Need-put-level-requires
-put-level-requires c κs = search needs
-
 put-times-requires : tie.Need-put-times-requires
 put-times-requires c κs =
     let v = c .before .before .before in
     let g = v .before .before .before .before .before .before .before .before .before in
     let w = g .before .before .before .before .before .before .before .before .before .before in
     w .before .before .before .before .before .pre
-
-same-length : tie.Need-same-length
-same-length c = search needs
 
 returns : tie.Need-returns
 unfolding writeLine fieldsOf taskWord
@@ -70,6 +40,6 @@ returns c =
 pub put-task-spec : {M : Type 1} → statement M
 put-task-spec =
     tie.close
-    (tie.spec slice-aggregate-put-all put-all-requires cast-put-field put-field-requires cast-put-field-2
-    put-field-requires-2 cast-put-field-3 put-field-requires-3 put-level-requires put-times-requires
-    same-length returns)
+    (tie.spec (λ c. search needs) (λ c κs. search needs) (λ c. search needs) (λ c κs. search needs)
+    (λ c. search needs) (λ c κs. search needs) (λ c. search needs) (λ c κs. search needs)
+    (λ c κs. search needs) put-times-requires (λ c. search needs) returns)

@@ -37,12 +37,6 @@ put-task-requires c κs =
     short-tick (c .before .before .before .before .before .before .args .t1)
     (c .before .before .before .before .before .before .pre)
 
-add-i : tie.Need-add-i Inv-loop μ-loop
-add-i c = search needs
-
-loop-less : tie.Need-loop-less Inv-loop μ-loop
-loop-less c = omega arith
-
 loop-again : tie.Need-loop-again Inv-loop μ-loop
 loop-again c =
     let l = c .before .before .before .before .before .before in
@@ -71,5 +65,5 @@ returns c =
 pub put-tasks-spec : {M : Type 1} → statement M
 put-tasks-spec =
     tie.close
-    (tie.spec Inv-loop μ-loop loop-holds mul-x element-copy-out-x put-task-requires add-i loop-less loop-again
-    same-length returns)
+    (tie.spec Inv-loop μ-loop loop-holds mul-x element-copy-out-x put-task-requires
+    (λ c. search needs) (λ c. omega arith) loop-again same-length returns)

@@ -8,19 +8,11 @@ use borrow.Author.Needs.{needs}
 use Rattle.writer.proofs.put_time.Statement.{statement}
 use Rattle.writer.proofs.put_time.Tie as tie
 
-in-micros-requires : tie.Need-in-micros-requires
-in-micros-requires c κs = search needs
-
-put-field-requires : tie.Need-put-field-requires
-put-field-requires c κs = search needs
-
-same-length : tie.Need-same-length
-same-length c = search needs
-
 returns : tie.Need-returns
 returns c =
     let p = c .before .before in
     put-as (ap (λ x. digits (x .0) ++ (tab ∷ [])) (p .before .before .in-micros .ensures)) (p .put-field .ensures)
 
 pub put-time-spec : {M : Type 1} → statement M
-put-time-spec = tie.close (tie.spec in-micros-requires put-field-requires same-length returns)
+put-time-spec =
+    tie.close (tie.spec (λ c κs. search needs) (λ c κs. search needs) (λ c. search needs) returns)

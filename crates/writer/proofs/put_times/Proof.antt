@@ -9,24 +9,6 @@ use borrow.Author.Needs.{needs}
 use Rattle.writer.proofs.put_times.Statement.{statement}
 use Rattle.writer.proofs.put_times.Tie as tie
 
-put-time-requires : tie.Need-put-time-requires
-put-time-requires c κs = search needs
-
-put-time-requires-2 : tie.Need-put-time-requires-2
-put-time-requires-2 c κs = search needs
-
-in-micros-requires : tie.Need-in-micros-requires
-in-micros-requires c κs = search needs
-
-put-number-requires : tie.Need-put-number-requires
-put-number-requires c κs = search needs
-
-put-byte-requires : tie.Need-put-byte-requires
-put-byte-requires c κs = search needs
-
-same-length : tie.Need-same-length
-same-length c = search needs
-
 returns : tie.Need-returns
 returns c =
     let b = c .before .before in
@@ -45,5 +27,5 @@ returns c =
 pub put-times-spec : {M : Type 1} → statement M
 put-times-spec =
     tie.close
-    (tie.spec put-time-requires put-time-requires-2 in-micros-requires put-number-requires put-byte-requires
-    same-length returns)
+    (tie.spec (λ c κs. search needs) (λ c κs. search needs) (λ c κs. search needs)
+    (λ c κs. search needs) (λ c κs. search needs) (λ c. search needs) returns)

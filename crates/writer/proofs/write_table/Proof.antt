@@ -29,16 +29,10 @@ is-made c =
     let m = made t (sound (c .before)) (length-replicate {A = ℕ} 16384 0) (c .put-table .ensures) in
     record { many = m .0; text = m .1; fits = m .2 }
 
-table-keeps-requires : tie.Need-table-keeps-requires
-table-keeps-requires c κs = search needs
-
 returns : tie.Need-returns
 returns c =
     let a = c .before .before .before .args in
     wrote-unsound (a .t) (a .room .now) (sym (c .before .table-keeps .ensures) ∙ not-true _ (c .if1 .taken))
-
-slice-aggregate-put-table : tie.Need-slice-aggregate-put-table
-slice-aggregate-put-table c = search needs
 
 put-table-requires : tie.Need-put-table-requires
 put-table-requires c κs = sound c
@@ -58,12 +52,6 @@ slice-aggregate-put-all c =
     let p = c .before .before .before in
     sym (length-take-le (p .put-table .result) (p .put-table .last .1 .0) (omega (arith, is-made p .fits, p .put-table .kept .1 .0)))
 
-put-all-requires : tie.Need-put-all-requires
-put-all-requires c κs = search needs
-
-same-length : tie.Need-same-length
-same-length c = search needs
-
 returns-3 : tie.Need-returns-3
 returns-3 c =
     let q = c .before .before in
@@ -75,5 +63,6 @@ returns-3 c =
 pub write-table-spec : {M : Type 1} → statement M
 write-table-spec =
     tie.close
-    (tie.spec table-keeps-requires returns slice-aggregate-put-table put-table-requires returns-2
-    array-share-prefix-text slice-aggregate-put-all put-all-requires same-length returns-3)
+    (tie.spec (λ c κs. search needs) returns (λ c. search needs) put-table-requires returns-2
+    array-share-prefix-text slice-aggregate-put-all (λ c κs. search needs) (λ c. search needs)
+    returns-3)
