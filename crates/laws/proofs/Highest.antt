@@ -1,7 +1,7 @@
 -- The highest marked row: what it is, and how a walk over the rows finds it. Assumes nothing.
-use mathlib.Core.Path.{_≡_, refl}
+use mathlib.Core.Path.{_≡_, refl, sym}
 use mathlib.Core.Bool.{Bool, true, false, not, _&&_}
-use mathlib.Core.Logic.{_⊎_, inl, inr}
+use mathlib.Core.Logic.{_⊎_, inl, inr, _↔_}
 use Prim.Native.Nat.{ℕ, zero, suc, _+_, _≤_, _<_}
 use native.Mathlib.Omega.{arith}
 use native.Mathlib.Numerals.{add-one}
@@ -148,3 +148,40 @@ module _ (marked : ℕ → Bool) (priority : ℕ → ℕ) where
 
   pub highest-none : (n : ℕ) → highest n marked priority ≡ Nothing → (j : ℕ) → j < n → marked j ≡ false
   highest-none n e = rw e at (highest-picked n)
+
+-- Where no two rows have one priority, the highest is the row above which none stands, said of what
+-- the mark means.
+module _ (n : ℕ) (marked : ℕ → Bool) (priority : ℕ → ℕ)
+    (apart : (i j : ℕ) → i < n → j < n → (i ≡ j → ⊥) → priority i ≡ priority j → ⊥)
+    (Is : ℕ → Type 0) (is : (j : ℕ) → Is j ↔ ((j < n) × (marked j ≡ true))) where
+  pub highest-exactly : (i : ℕ) →
+      (highest n marked priority ≡ At i) ↔ (Is i × ((j : ℕ) → Is j → priority j ≤ priority i))
+  highest-exactly i = (to, λ p. sym (picked-is marked priority n (At i) (stands p)))
+    where
+      to : highest n marked priority ≡ At i → Is i × ((j : ℕ) → Is j → priority j ≤ priority i)
+      to e =
+          let h = highest-at marked priority n i e in
+          (is i .1 (h .below, h .is), λ j q. h .top j (is j .0 q .0) (is j .0 q .1))
+
+      stands : Is i × ((j : ℕ) → Is j → priority j ≤ priority i) → Stands n marked priority i
+      stands p =
+          let b = is i .0 (p .0) .0 in
+          record {
+            below = b;
+            is = is i .0 (p .0) .1;
+            top = λ j l q. p .1 j (is j .1 (l, q));
+            first =
+                λ j l q.
+                let d : j < n = omega arith in
+                let c : j ≡ i → ⊥ = λ z. omega arith in
+                omega (arith, p .1 j (is j .1 (d, q)), apart j i d b c);
+          }
+
+  pub none-exactly : (highest n marked priority ≡ Nothing) ↔ ((j : ℕ) → Is j → ⊥)
+  none-exactly = (
+    λ e j q. clash (marked j) (is j .0 q .1) (highest-none marked priority n e j (is j .0 q .0)),
+    λ f.
+        sym
+        (picked-is marked priority n Nothing
+        (λ j l. elim (true-or-false (marked j)) [ inl e ↦ absurd (f j (is j .1 (l, e))) | inr e ↦ e ])),
+  )

@@ -4,24 +4,29 @@
 use mathlib.Core.Path.{_≡_, refl, sym, ap, _∙_}
 use mathlib.Core.Bool.{Bool, true, false, _||_}
 use mathlib.Core.List.{List, [], _∷_, _++_, append-assoc, append-nil}
+use mathlib.Core.Logic.{_↔_}
 use Prim.Native.Nat.{ℕ, zero, suc, _+_, _*_, _-_, _/_, _≤_, _<_}
 use native.Mathlib.Omega.{arith}
 use lib.Dec.{leb, eqb}
+use native.Mathlib.Nat.{zero-add}
 use native.Mathlib.Numerals.{add-one}
 use lib.ListN.{length, getD, take, drop, set, length-drop}
-use lib.Seq.{sets, length-sets, take-all, take-length, drop-drop}
-use borrow.Author.Tests.{le-leb, lt-leb}
+use lib.Seq.{sets, sets-eq, length-sets, take-all, take-length, drop-drop, drop-append-seam}
+use borrow.Author.Tests.{le-leb, lt-leb, leb-false}
 use Rattle.bytes.specs.Bytes.{indexOf, indexAfter, slice}
 use Rattle.laws.specs.Choice.{if_then_else_}
+use Rattle.laws.proofs.Choice.{clash, if-ind, or-false}
 use Rattle.decimal.specs.Lines.{lineFeed, toFirst, split}
 use Rattle.decimal.proofs.Room.{sets-append}
 use Rattle.table.specs.declared.Refusal.the-variants.{RoomShort}
+use Rattle.text.specs.Standing.{isNil}
 use Rattle.run.specs.declared.Event.the-variants.{Release, Tick}
 use Rattle.run.specs.declared.EventLine.{EventLine}
 use Rattle.run.specs.declared.EventLine.the-variants.{Of, Another}
 use Rattle.run.specs.declared.Taking.the-variants.{Taken, Refused}
 use Rattle.run.specs.Values.{lineValues, allLineValues}
-use Rattle.run.proofs.Values.{line-length}
+use Rattle.run.specs.Many.{takingNumber}
+use Rattle.run.proofs.Values.{line-length, line-values-length}
 use Rattle.lines.specs.declared.Held.{Held}
 use Rattle.lines.specs.EventLine.{eventLine, closedLines, eventLines}
 use Rattle.lines.specs.HeldLine.{lineIn, heldOf}
@@ -341,6 +346,67 @@ cut-short h (b ∷ bytes) room e l = rw (lt-leb 2 (length room) l)
 pub cut-long : (h : Held) (bytes room : List ℕ) → 2 ≤ length room → cutFirst h bytes room ≡ cutOf h bytes room
 unfolding cutOf
 cut-long h bytes room l = rw (le-leb 2 (length room) l)
+
+-- 12, "lent room shorter than the text", exactly where a byte is there to take and no line has
+-- room; then the room is as it was, and never is a place changed beyond the lines.
+some-byte : (bytes : List ℕ) → isNil bytes ≡ false → 1 ≤ length bytes
+some-byte [] e = absurd (clash true refl e)
+some-byte (b ∷ bytes) e = omega arith
+
+module _ (h : Held) (bytes room : List ℕ) where
+  abbrev uncut : CutInto
+  uncut =
+      record { cut = record { answer = Refused RoomShort; held = h; eaten = 0; many = 0 }; room = room }
+
+  abbrev Short : Type 0
+  Short = (1 ≤ length bytes) × (length room < 2)
+
+  door : (P : CutInto → Type 0) → (Short → P uncut) → P (cutFirst h bytes room) → P (cutOf h bytes room)
+  unfolding cutOf
+  door P short long =
+      if-ind P (leb 2 (length room) || isNil bytes) (λ e. long)
+      (λ e.
+      let f = or-false (leb 2 (length room)) (isNil bytes) e in
+      short (some-byte bytes (f .1), leb-false 2 (length room) (f .0)))
+
+  pub cut-12 : (takingNumber (cutOf h bytes room .cut .answer) ≡ 12) ↔ Short
+  unfolding cutFirst
+  cut-12 = (
+    door (λ c. takingNumber (c .cut .answer) ≡ 12 → Short) (λ p e. p) (λ e. absurd (omega arith)),
+    λ p.
+        let e = cut-short h bytes room (λ z. omega (arith, p .0)) (p .1) in
+        ap (λ c. takingNumber (c .cut .answer)) (sym e),
+  )
+
+  pub cut-0 : (takingNumber (cutOf h bytes room .cut .answer) ≡ 0) ↔ (Short → ⊥)
+  unfolding cutFirst
+  cut-0 = (
+    λ e p. let q = cut-12 .1 p in omega arith,
+    λ n. door (λ c. takingNumber (c .cut .answer) ≡ 0) (λ p. absurd (n p)) refl,
+  )
+
+  abbrev AsItWas : CutInto → Type 0
+  AsItWas c = (c .room ≡ room) × (c .cut .held ≡ h) × (c .cut .eaten ≡ 0)
+
+  pub cut-as-it-was : (takingNumber (cutOf h bytes room .cut .answer) ≡ 0 → ⊥) →
+      AsItWas (cutOf h bytes room)
+  unfolding cutFirst
+  cut-as-it-was =
+      door (λ c. (takingNumber (c .cut .answer) ≡ 0 → ⊥) → AsItWas c) (λ p n. (refl, refl, refl))
+      (λ n. absurd (n refl))
+
+  pub cut-beyond : drop (2 * cutOf h bytes room .cut .many) (cutOf h bytes room .room) ≡
+      drop (2 * cutOf h bytes room .cut .many) room
+  unfolding cutFirst
+  cut-beyond =
+      let n = length room / 2 in
+      let ls = cutting n (lineIn h) bytes .lines in
+      let v = allLineValues ls in
+      let e = line-values-length ls in
+      let q : sets room 0 v ≡ v ++ drop (0 + length v) room =
+      sets-eq v room 0 (omega (arith, cut-few n (lineIn h) bytes)) in
+      door (λ c. drop (2 * c .cut .many) (c .room) ≡ drop (2 * c .cut .many) room) (λ p. refl)
+      (rw (← e, q, zero-add (length v)) (drop-append-seam v (drop (length v) room)))
 
 -- The lines of a whole file: those that it closes, and an unclosed last one.
 -- the parts of a text before which h stands

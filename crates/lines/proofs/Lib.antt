@@ -1,3 +1,4 @@
+pub mod Cases
 pub mod EventLine
 pub mod HeldLine
 pub mod Cutting

@@ -8,3 +8,14 @@ pub mod Charged
 pub mod Second
 pub mod Bounds
 pub mod Shown
+pub mod Pairs
+pub mod Reading
+pub mod Rules
+pub mod Condition1
+pub mod ByTheRules
+pub mod Condition2
+pub mod FromTheText
+pub mod RulesSettle
+pub mod InUse
+pub mod Dummies
+pub mod Reworded

@@ -1,5 +1,5 @@
--- The two bounds on what a server is charged, as they were asked for. They speak of the answers that a run gives and of
--- what step 5 finds. proofs/Bounds.antt proves both.
+-- Condition 3. The two bounds on what a server is charged, as they were asked for. They speak of
+-- the answers that a run gives and of what step 5 finds. proofs/Bounds.antt proves both.
 use mathlib.Core.Path.{_≡_}
 use mathlib.Core.Bool.{Bool, true, false, _&&_, _||_}
 use mathlib.Core.List.{List, [], _∷_, _++_, map}

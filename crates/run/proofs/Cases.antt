@@ -10,7 +10,7 @@ use Rattle.laws.specs.Choice.{every}
 use Rattle.laws.specs.Search.{least}
 use Rattle.laws.specs.Rows.{allBelow, anyBelow, sumBelow, highest, anew}
 use Rattle.table.specs.declared.Kind.the-variants.{Timed}
-use Rattle.table.specs.declared.Level.the-variants.{MI, HI}
+use Rattle.table.specs.declared.Level.the-variants.{LO, MI, HI}
 use Rattle.table.specs.declared.Mode.{Mode}
 use Rattle.table.specs.declared.Mode.the-variants.{N, D1, D2}
 use Rattle.table.specs.declared.Table.{Table}
@@ -70,12 +70,20 @@ crossed =
     (server 0 Timed 10 4 (byMode 1 1 1) ∷ server 0 Timed 20 4 (byMode 2 2 2) ∷ [])
     (task 1 1 10 MI (byMode 1 1 1) ∷ task 1 1 20 HI (byMode 1 1 1) ∷ []))
 
+-- One timed server with a HI task whose three limits are equal and, below it, a LO task.
+unfoldable pub tight : Table
+tight =
+    tableOf
+    (rows
+    (server 0 Timed 10 4 (byMode 4 4 4) ∷ [])
+    (task 0 0 20 HI (byMode 1 1 1) ∷ task 0 0 10 LO (byMode 2 2 2) ∷ []))
+
 unfoldable computed : Unit {0}
 unfolding
     every least allBelow anyBelow sumBelow highest anew tableOf tableKeeps keeps serverKeeps taskKeeps
     taskFault taskStands differ waits someWaits soundServer soundFront soundTask soundLast soundCounts soundState sound
     releaseOf judge step1 drops discards step2 step3 step4 settle able highestAble highestTask choose advance
-    tickTaken tickOf after answers example turns crossed
+    tickTaken tickOf after answers example turns crossed tight
 computed = tt
 
 -- What one tick does.
@@ -171,6 +179,13 @@ pub low-discarded : told (Release 0 ∷ (replicate 3 (Release 2) ++ replicate 3 
     ∷ []
 unfolding computed
 low-discarded = refl
+
+-- Step 3 comes after step 2, "A rise that step 3 takes back in the same tick leaves that tick in N":
+-- at tick 1 the HI job rises to D2 and is cut there, the LO job is discarded, and no job waits.
+pub rise-taken-back : answers (freshRun tight) (Release 0 ∷ Release 1 ∷ Tick false ∷ Tick false ∷ []) ≡
+    Released 0 ∷ Released 1 ∷ says 0 N (Ran 0 0) Nobody 0 ∷ says 1 N (Empty 0) (Cut 0) 1 ∷ []
+unfolding computed
+rise-taken-back = refl
 
 -- Numbers for no.
 

@@ -8,6 +8,7 @@ use Prim.Native.Nat.{ℕ, zero, suc, _+_, _*_, _≤_, _<_}
 use native.Mathlib.Omega.{arith}
 use lib.Dec.{leb}
 use lib.ListN.{length, getD, drop, length-append}
+use lib.Seq.{drop-append-seam}
 use borrow.Author.Tests.{leb-true, leb-false, le-leb, lt-leb}
 use Rattle.laws.proofs.Choice.{if-ind}
 use Rattle.table.specs.declared.Refusal.the-variants.{RoomShort, Unsound}
@@ -150,6 +151,17 @@ module _ (r : Run) (values room : List ℕ) where
       (λ e n. (refl, refl))
       (λ p n. (refl, refl))
       (λ p n. absurd (n refl))
+
+  -- "A writer changes nothing beyond the text."
+  pub many-beyond :
+      drop (9 * length lines) (manyOf r values room .room) ≡ drop (9 * length lines) room
+  many-beyond =
+      let n = 9 * length lines in
+      let told = toldToAll r lines in
+      let v = allValues told in
+      let e : length v ≡ n = omega (arith, values-length told, told-all-length r lines) in
+      many-cases (λ (l : Lent). drop n (l .room) ≡ drop n room) (λ p. refl) (λ p. refl)
+      (λ p. rw (← e) (drop-append-seam v (drop (length v) room)))
 
   -- where they are taken, the nine numbers from 9i on tell what is told to line i
   pub many-told : (i : ℕ) → ManyYes → i < length lines →

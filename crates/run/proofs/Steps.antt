@@ -2,23 +2,26 @@
 -- is at its limit, and no LO job waits in D2. Steps 4 to 7 leave the queues alone but for the run
 -- count of the job that runs. Assumes nothing.
 use mathlib.Core.Path.{_≡_, refl, ap, sym, subst, _∙_}
-use mathlib.Core.Bool.{Bool, true, false}
+use mathlib.Core.Bool.{Bool, true, false, not, _&&_}
 use mathlib.Core.List.{List}
-use mathlib.Core.Logic.{_⊎_, inl, inr}
+use mathlib.Core.Logic.{_⊎_, inl, inr, _↔_}
 use Prim.Native.Nat.{ℕ, zero, suc, _+_, _-_, _≤_, _<_}
 use native.Mathlib.Omega.{arith}
 use lib.Dec.{eqb}
 use lib.ListN.{length, getD, set}
 use lib.Seq.{getD-set-same, getD-set-other}
-use borrow.Author.Tests.{eqb-true, eqb-false, lt-ltb}
+use borrow.Author.Tests.{eqb-true, eqb-false, lt-ltb, not-true}
 use Rattle.laws.specs.Choice.{if_then_else_}
 use Rattle.laws.specs.Rows.{sumBelow}
-use Rattle.laws.proofs.Choice.{clash, if-ind, true-or-false}
+use Rattle.laws.proofs.Choice.{clash, if-ind, true-or-false, and-left, and-right, and-true}
 use Rattle.laws.proofs.Rows.{any-none, sum-zero}
 use Rattle.laws.proofs.Anew.{anew-at}
+use Rattle.table.specs.declared.Level.the-variants.{LO}
 use Rattle.table.specs.declared.Mode.{Mode}
+use Rattle.table.specs.declared.Mode.the-variants.{D2}
 use Rattle.table.specs.declared.Table.{Table}
 use Rattle.table.specs.Rows.{taskAt, limitAt, isLow, isD2}
+use Rattle.table.proofs.Rows.{d2-exactly, low-exactly}
 use Rattle.table.proofs.Rules.{TableRules}
 use Rattle.run.specs.declared.Last.{Last}
 use Rattle.run.specs.declared.Last.the-variants.{NoJob, Job}
@@ -96,6 +99,48 @@ step1-waiting t s true (Job j) many h q k =
     omega (arith, front-gone s j k (omega (arith, h .waiting, q .below)) (q .waits))
 step1-waiting t s false (Job j) many h q k =
     judged-waiting s j (judge 3 (taskAt t j) (runsAt s j) (s .mode)) k (omega (arith, h .waiting, q .below)) (q .waits)
+
+-- a front job that stays has run as many ticks
+pub runs-stay : (t : Table) (s : State) (mark : Bool) (l : Last) (k : ℕ) →
+    finishedBy (step1 t s mark l .left) k + cutBy (step1 t s mark l .left) k ≡ 0 →
+    runsAt (step1 t s mark l .state) k ≡ runsAt s k
+unfolding step1
+runs-stay t s mark NoJob k = λ e. refl
+runs-stay t s true (Job j) k = λ e. set-past (s .runs) j 0 k (λ q. omega (arith, one-here j k q))
+runs-stay t s false (Job j) k =
+    if-ind
+    (λ (z : Marked). finishedBy (z .left) k + cutBy (z .left) k ≡ 0 → runsAt (z .state) k ≡ runsAt s k)
+    (judge 3 (taskAt t j) (runsAt s j) (s .mode) .cut)
+    (λ c e. set-past (s .runs) j 0 k (λ q. omega (arith, one-here j k q)))
+    (λ c e. refl)
+
+-- "On entering D2 every waiting LO job"
+pub drops-exactly : (t : Table) (before : Mode) (s : State) (k : ℕ) →
+    (drops t before s k ≡ true) ↔ ((s .mode ≡ D2) × (before ≡ D2 → ⊥) × (taskAt t k .level ≡ LO))
+unfolding drops
+drops-exactly t before s k = (
+  λ e.
+      let f = and-left (a && b) l e in (
+        d2-exactly (s .mode) .0 (and-left a b f),
+        λ q. clash (isD2 before) (ap isD2 q) (not-true (isD2 before) (and-right a b f)),
+        low-exactly (taskAt t k .level) .0 (and-right (a && b) l e),
+      ),
+  λ p. and-true (a && b) l (and-true a b (ap isD2 (p .0)) (out p (isD2 before) refl)) (ap isLow (p .2)),
+)
+  where
+    a : Bool
+    a = isD2 (s .mode)
+
+    b : Bool
+    b = not (isD2 before)
+
+    l : Bool
+    l = isLow (taskAt t k .level)
+
+    out : (s .mode ≡ D2) × (before ≡ D2 → ⊥) × (taskAt t k .level ≡ LO) → (d : Bool) → isD2 before ≡ d →
+        not d ≡ true
+    out p true e = absurd (p .1 (d2-exactly before .0 e))
+    out p false e = refl
 
 -- Step 2: what is discarded of a task and what still waits are what waited.
 pub step2-waiting : (t : Table) (m : Mode) (s : State) → t .ntasks ≤ 64 → Shaped s → (k : ℕ) → k < t .ntasks →

@@ -3,7 +3,7 @@
 -- t z`. Each is read off the steps and off the law of the highest row. Assumes nothing.
 use mathlib.Core.Path.{_≡_, refl, ap, sym, _∙_}
 use mathlib.Core.Bool.{Bool, true, false, _||_}
-use mathlib.Core.Logic.{_⊎_, inl, inr}
+use mathlib.Core.Logic.{_⊎_, inl, inr, _↔_}
 use Prim.Native.Nat.{ℕ, _+_, _≤_, _<_}
 use native.Mathlib.Omega.{arith}
 use lib.Dec.{ltb, eqb}
@@ -16,15 +16,20 @@ use Rattle.laws.proofs.Rows.{any-found, any-at}
 use Rattle.laws.proofs.Anew.{anew-at}
 use Rattle.laws.proofs.Highest.{highest-at, highest-none}
 use Rattle.units.specs.declared.Ticks.{Ticks}
+use Rattle.table.specs.declared.Mode.{Mode}
+use Rattle.table.specs.declared.Mode.the-variants.{N, D1, D2}
+use Rattle.table.specs.declared.Task.{Task}
 use Rattle.table.specs.declared.Table.{Table}
 use Rattle.table.specs.Rows.{serverAt, taskAt, periodAt, priorityAt, capacityAt, taskPriorityAt, isTimed}
+use Rattle.run.specs.declared.Last.the-variants.{Job}
 use Rattle.run.specs.declared.State.{State}
 use Rattle.run.specs.declared.Turn.{Turn}
 use Rattle.run.specs.declared.Turn.the-variants.{Run as Ran, Empty, Idle}
 use Rattle.run.specs.State.{usedAt, elapsedAt, owner, taskWaits, waitsFor, waits}
 use Rattle.run.specs.Answers.{one, charged, ran}
 use Rattle.run.specs.Release.{withJob}
-use Rattle.run.specs.Tick.{step4, settle, able, highestAble, highestTask, turnOf, choose, lastOf, advance, tickTaken}
+use Rattle.run.specs.Tick.{step4, settle, able, highestAble, highestTask, turnOf, turnFor, choose, lastOf}
+use Rattle.run.specs.Tick.{advance, tickTaken}
 use Rattle.run.proofs.Shape.{Shaped, alike-shaped, step123, step123-alike, settle-is, settle-shaped, settle-counts}
 
 -- T1. The servers' counts: step 4 starts them afresh where the period ended, steps 5 and 7 raise
@@ -312,3 +317,43 @@ pub one-charged : (turn : Turn) (i j : ℕ) → charged turn i ≡ 1 → charged
 one-charged (Ran k n) i j p q = sym (one-eq k i p) ∙ one-eq k j q
 one-charged (Empty k) i j p q = sym (one-eq k i p) ∙ one-eq k j q
 one-charged Idle i j p q = absurd (omega arith)
+
+-- What a tick says, by the highest able server and its highest task with a waiting job.
+pub turn-run : (f : ℕ → Found) (a : Found) (i k : ℕ) → turnFor f a ≡ Ran i k → (a ≡ At i) × (f i ≡ At k)
+turn-run f Nothing i k e = let z : _≡_ {A = ℕ} 0 1 = cc in absurd (omega arith)
+turn-run f (At j) i k e = go (f j) refl e
+  where
+    go : (b : Found) → f j ≡ b → turnOf j b ≡ Ran i k → (At j ≡ At i) × (f i ≡ At k)
+    go (At m) q d = let p : j ≡ i = cc in let o : m ≡ k = cc in (ap At p, rw (← p) (q ∙ ap At o))
+    go Nothing q d = let z : _≡_ {A = ℕ} 0 1 = cc in absurd (omega arith)
+
+pub turn-empty : (f : ℕ → Found) (a : Found) (i : ℕ) → turnFor f a ≡ Empty i → (a ≡ At i) × (f i ≡ Nothing)
+turn-empty f Nothing i e = let z : _≡_ {A = ℕ} 0 1 = cc in absurd (omega arith)
+turn-empty f (At j) i e = go (f j) refl e
+  where
+    go : (b : Found) → f j ≡ b → turnOf j b ≡ Empty i → (At j ≡ At i) × (f i ≡ Nothing)
+    go (At m) q d = let z : _≡_ {A = ℕ} 0 1 = cc in absurd (omega arith)
+    go Nothing q d = let p : j ≡ i = cc in (ap At p, rw (← p) q)
+
+pub turn-idle : (f : ℕ → Found) (a : Found) → turnFor f a ≡ Idle → a ≡ Nothing
+turn-idle f Nothing e = refl
+turn-idle f (At j) e = go (f j) e
+  where
+    go : (b : Found) → turnOf j b ≡ Idle → At j ≡ Nothing
+    go (At m) d = let z : _≡_ {A = ℕ} 0 1 = cc in absurd (omega arith)
+    go Nothing d = let z : _≡_ {A = ℕ} 0 1 = cc in absurd (omega arith)
+
+pub turn-last : (u : Turn) (k : ℕ) → (lastOf u ≡ Job k) ↔ ((i : ℕ) × (u ≡ Ran i k))
+turn-last u k = (to u, λ p. ap lastOf (p .1))
+  where
+    to : (u : Turn) → lastOf u ≡ Job k → (i : ℕ) × (u ≡ Ran i k)
+    to (Ran i j) e = let q : j ≡ k = cc in (i, ap (Ran i) q)
+    to (Empty i) e = let z : _≡_ {A = ℕ} 0 1 = cc in absurd (omega arith)
+    to Idle e = let z : _≡_ {A = ℕ} 0 1 = cc in absurd (omega arith)
+
+-- "In N a task belongs to its home, else to its degraded server."
+pub owner-exactly : (m : Mode) (k : Task) (i : ℕ) →
+    (owner m k ≡ i) ↔ ((m ≡ N → k .home ≡ i) × ((m ≡ N → ⊥) → k .degraded ≡ i))
+owner-exactly N k i = (λ e. (λ q. e, λ n. absurd (n refl)), λ p. p .0 refl)
+owner-exactly D1 k i = (λ e. (λ q. let z : _≡_ {A = ℕ} 0 1 = cc in absurd (omega arith), λ n. e), λ p. p .1 (λ q. let z : _≡_ {A = ℕ} 0 1 = cc in omega arith))
+owner-exactly D2 k i = (λ e. (λ q. let z : _≡_ {A = ℕ} 0 1 = cc in absurd (omega arith), λ n. e), λ p. p .1 (λ q. let z : _≡_ {A = ℕ} 0 1 = cc in omega arith))

@@ -1,3 +1,4 @@
+pub mod Rows
 pub mod Pairs
 pub mod Inner
 pub mod Rules

@@ -131,6 +131,10 @@ module _ (ss : List Server) (home degraded : ℕ) (limit : ByMode) where
       let f = unless-kept (rising limit) Falling _ (d .1) in
       record { there = a .0; partition = b .0; timed = c .0; stays = d .0; rises = f .0 }
 
+  pub no-fault : Faultless ss home degraded limit → Kept ≡ taskFault ss home degraded limit
+  unfolding taskFault
+  no-fault f = rw (f .there, f .partition, f .timed, f .stays, f .rises)
+
 -- the rows that a task names are there
 both-there : (n h d : ℕ) → (ltb h n && ltb d n) ≡ true → (h < n) × (d < n)
 both-there n h d e =

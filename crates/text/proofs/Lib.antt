@@ -1,3 +1,4 @@
+pub mod Cases
 pub mod Lines
 pub mod Ticks
 pub mod Bounds
@@ -5,3 +6,4 @@ pub mod Refused
 pub mod Standing
 pub mod Allowed
 pub mod RoundTrip
+pub mod ReadFrom

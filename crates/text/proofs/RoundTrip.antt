@@ -8,15 +8,16 @@ use mathlib.Core.List.{List, [], _∷_, _++_, map, append-cancel-right}
 use mathlib.Core.Logic.{_↔_}
 use Prim.Native.Nat.{ℕ, suc, _+_, _-_, _≤_, _<_}
 use native.Mathlib.Omega.{arith}
-use lib.ListN.{length, replicate, length-append, length-map}
+use lib.ListN.{length, replicate, length-append, length-map, length-replicate}
 use lib.Seq.{take-append-seam}
 use borrow.Author.Tests.{le-leb}
 use Rattle.laws.proofs.Choice.{and-true, and-left, and-right, is-within}
 use Rattle.decimal.specs.Lines.{lineFeed, split, closed}
 use Rattle.decimal.proofs.Lines.{AllUpTo, closed-length, lacks, allLack, split-closed, closed-split}
 use Rattle.table.specs.declared.Table.{Table}
-use Rattle.table.specs.Rows.{Rows, rowsOf, tableOf, noServer, noTask}
+use Rattle.table.specs.Rows.{Rows, rowsOf, padded, tableOf, noServer, noTask}
 use Rattle.table.specs.Rules.{keeps, tableKeeps}
+use Rattle.table.specs.Inner.{Sized}
 use Rattle.table.proofs.Rules.{rows-keep as table-rows-keep}
 use Rattle.text.specs.declared.Line.{Line}
 use Rattle.text.specs.declared.Line.the-variants.{OfTick, OfServer, OfTask, Malformed}
@@ -107,7 +108,7 @@ rows-keep text e =
 
 -- Which lines stay as they stand: those whose task times are whole ticks. Nothing stands after the
 -- last line feed.
-nothing-said : readLine [] ≡ Malformed
+pub nothing-said : readLine [] ≡ Malformed
 unfolding readLine split
 nothing-said = no-fields []
 
@@ -192,6 +193,16 @@ rows-table a e =
     let q = is-within 1 64 (length (a .tasks)) (k .tasks-low) (k .good .tasks-high) in
     rw (p, q, table-rows a) e
 
+-- and has the length of its arrays, where these rows are not too many
+table-sized : (a : Rows) → length (a .servers) ≤ 32 → length (a .tasks) ≤ 64 → Sized (tableOf a)
+unfolding tableOf
+table-sized a h g =
+    record { servers = long (a .servers) 32 noServer h; tasks = long (a .tasks) 64 noTask g }
+  where
+    long : {A : Type 0} (xs : List A) (n : ℕ) (z : A) → length xs ≤ n → length (padded n z xs) ≡ n
+    long xs n z l =
+        omega (arith, length-append xs (replicate (n - length xs) z), length-replicate (n - length xs) z)
+
 -- The statements to quote. `shown (read text)` is what the reader answers, and `write (rowsOf t)`
 -- is the text that the writer writes of t.
 
@@ -213,6 +224,12 @@ read-then-write text e = rw (table-rows (read text .rows)) (allowed-text text (r
 pub read-keeps : (text : List ℕ) → shown (read text) .answer ≡ Taken → tableKeeps (shown (read text) .table) ≡ true
 unfolding shown
 read-keeps text e = rows-table (read text .rows) (rows-keep text e)
+
+pub read-sized : (text : List ℕ) → shown (read text) .answer ≡ Taken → Sized (shown (read text) .table)
+unfolding shown
+read-sized text e =
+    let k = keeps-rows (read text .rows) (rows-keep text e) in
+    table-sized (read text .rows) (k .good .servers-high) (k .good .tasks-high)
 
 -- "The text is at most 16,384 bytes": so is every text that is written.
 pub written-fits : (t : Table) → tableKeeps t ≡ true → length (write (rowsOf t)) ≤ 16384

@@ -1,0 +1,92 @@
+-- Small texts worked out by hand: the number and the lines that each is answered with, and what is
+-- written. So a wrong definition is a false equation that can be seen. Assumes nothing.
+use mathlib.Core.Path.{_≡_, refl}
+use mathlib.Core.Bool.{false}
+use mathlib.Core.List.{List, [], _∷_, _++_}
+use Prim.Native.Nat.{ℕ}
+use Prim.Native.String.{String}
+use lib.ListN.{length, replicate}
+use Rattle.laws.specs.Choice.{every}
+use Rattle.laws.specs.Search.{least}
+use Rattle.laws.specs.RoundUp.{up}
+use Rattle.laws.specs.Quoted.{bytes, lined}
+use Rattle.laws.specs.Rows.{allBelow}
+use Rattle.decimal.specs.Number.{areDigits, numberForm, isNumber, worthFrom, digitsIn, digits}
+use Rattle.decimal.specs.Lines.{split, join, closed, same}
+use Rattle.table.specs.Rows.{tableOf}
+use Rattle.table.specs.Rules.{tableKeeps, keeps, serverKeeps, taskKeeps, taskFault, taskStands, differ}
+use Rattle.table.specs.Pairs.{laterEqual, firstPair}
+use Rattle.text.specs.Words.{tickWord, serverWord, taskWord, eventWord, timedWord, loWord, miWord, hiWord}
+use Rattle.text.specs.Line.{tickForm, serverForm, taskForm, allFit, has, lineOf, readLine, fieldsOf, writeLine}
+use Rattle.text.specs.Standing.{placed, serverBounds, taskBounds, bounds, serverWhole, wholes, fault, standing, grown}
+use Rattle.text.specs.Read.{readingNumber, readingLines, compared, ended, readFrom, read}
+use Rattle.text.specs.Write.{serverLines, taskLines, linesOf, write, wrote, allTimesWhole, timesWhole}
+
+unfoldable computed : Unit {0}
+unfolding
+    every least up allBelow areDigits numberForm isNumber worthFrom digitsIn digits split join closed same tableOf
+    tableKeeps keeps serverKeeps taskKeeps taskFault taskStands differ laterEqual firstPair tickWord serverWord
+    taskWord eventWord timedWord loWord miWord hiWord tickForm serverForm taskForm allFit has lineOf readLine
+    fieldsOf writeLine placed serverBounds taskBounds bounds serverWhole wholes fault standing grown compared
+    ended readFrom read serverLines taskLines linesOf write wrote allTimesWhole
+computed = tt
+
+-- the number, and the lines that come back with it
+abbrev said : List ℕ → List ℕ
+said text = readingNumber (read text .answer) ∷ readingLines (read text .answer)
+
+-- a `tick` line and a timed server below it, with these times
+abbrev server : String → String → List ℕ
+server tick times = bytes "tick\t" ++ lined (tick ∷ []) ++ bytes "server\t0\ttimed\t1\t" ++ lined (times ∷ [])
+
+-- a whole text: a server of 2 ticks, and a task with these limits
+abbrev whole : String → List ℕ
+whole limits = server "1000" "2000\t1000\t1000\t1000" ++ bytes "task\t0\t0\t1\tLO\t" ++ lined (limits ∷ [])
+
+pub tick-of-0 : said (lined ("tick\t0" ∷ [])) ≡ 2 ∷ 1 ∷ []
+unfolding computed
+tick-of-0 = refl
+
+pub parted-by-a-blank : said (lined ("tick 1000" ∷ [])) ≡ 1 ∷ 1 ∷ []
+unfolding computed
+parted-by-a-blank = refl
+
+pub field-too-many : said (lined ("tick\t1000\t1" ∷ [])) ≡ 1 ∷ 1 ∷ []
+unfolding computed
+field-too-many = refl
+
+-- below a tick, and not whole: 2 comes before 3
+pub period-of-half-a-tick : said (server "2" "1\t0\t0\t0") ≡ 2 ∷ 2 ∷ []
+unfolding computed
+period-of-half-a-tick = refl
+
+pub period-too-long : said (server "1" "1000001\t0\t0\t0") ≡ 2 ∷ 2 ∷ []
+unfolding computed
+period-too-long = refl
+
+pub capacity-above-the-period : said (server "1000" "2000\t2001\t0\t0") ≡ 2 ∷ 2 ∷ []
+unfolding computed
+capacity-above-the-period = refl
+
+pub limit-of-200-ticks : said (whole "200000\t200000\t200000") ≡ 0 ∷ []
+unfolding computed
+limit-of-200-ticks = refl
+
+pub byte-after-the-last-line : said (whole "1000\t1000\t1000" ++ bytes "x") ≡ 1 ∷ 4 ∷ []
+unfolding computed
+byte-after-the-last-line = refl
+
+pub written-in-microseconds : write (read (whole "1000\t2000\t3000") .rows) ≡ whole "1000\t2000\t3000"
+unfolding computed
+written-in-microseconds = refl
+
+pub time-of-D2-not-whole : timesWhole 1000 (whole "1000\t1000\t1500") ≡ false
+unfolding computed
+time-of-D2-not-whole = refl
+
+-- one byte stands behind the text, and stays there
+pub byte-behind-the-text :
+    let text = whole "1000\t2000\t3000" in
+    wrote (tableOf (read text .rows)) (replicate (length text) 0 ++ (7 ∷ [])) .room ≡ text ++ (7 ∷ [])
+unfolding computed
+byte-behind-the-text = refl
