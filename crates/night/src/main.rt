@@ -1,104 +1,146 @@
 // night TABLE EVENTS: the answers to an event file, from a fresh start with a table. (01, One night
-// in full.) The file is read through a small buffer; the line that is not closed yet is held, so
-// the cutting into reads does not show.
+// in full.) The file is read in pieces; the line that is not closed yet is held, so the cutting
+// into reads does not show. Every byte of an answer is made by `next`, which neither reads nor
+// writes (specs/Pieces.antt); the loop around it only reads, calls it and writes.
 
+use files::How;
+use files::given::Case;
+use libc::STDERR_FILENO;
 use lines::Held;
 use lines::LONGEST_ANSWER;
 use run::Run;
+use serving::BATCH;
+use text::Reading;
+ghost use mathlib.Core.Path.{_≡_};
+ghost use Prim.Native.Nat.{_≤_, min};
+ghost use lib.ListN.{length, take};
+ghost use Rattle.lines.specs.HeldLine.{lineIn, heldOf};
+ghost use Rattle.lines.specs.Print.{longestAnswer};
+ghost use Rattle.night.specs.Pieces.{standing, pieceOf, lastText, turnOf, Ready, Lent};
 
 // The event file is read in pieces of so many bytes.
-const PIECE: usize = 16384;
+const PIECE: usize = 4096;
 
-// A batch of answers has room, each as long as the longest.
-const ROOM: usize = serving::BATCH * LONGEST_ANSWER;
+// Each byte of a piece may close a line, and each answer be as long as the longest.
+const ROOM: usize = PIECE * LONGEST_ANSWER;
 
-// A night so far: the run, the line that is held, and whether all could be read and written.
+// A night so far: the run, the line that is held, how many bytes were made for the writer last, and
+// whether it goes on.
 struct Night {
     run: Run,
     held: Held,
+    put: usize,
     going: bool,
 }
 
-// Some bytes of the event file, answered as far as the room goes, and how many they were.
-struct Some {
-    night: Night,
-    eaten: usize,
-}
-
-fn answer_some(n: Night, bytes: &[u8], room: &mut [u8]) -> Some {
-    let r = n.run;
-    let h = n.held;
-    let s = serving::serve(r, h, bytes, room);
-    let run = s.run;
-    let held = s.held;
-    let put = s.put;
-    let going = files::write_first(room, put);
-    Some {
-        night: Night { run, held, going },
-        eaten: s.eaten,
+// The smaller of two numbers.
+fn smaller_of(a: usize, b: usize) -> usize
+    ensures { λ r. ⌜ r ≡ min a b ⌝ }
+{
+    if a < b {
+        return a;
     }
+    b
 }
 
-// All of a piece. Each turn takes at least one byte, since the room is large enough for an answer.
-fn answer_piece(n: Night, bytes: &[u8], room: &mut [u8]) -> Night {
-    let mut night = n;
+// All of a piece: a batch of lines at a time, each into the room behind the answers before.
+fn answer_piece(n: Night, bytes: &[u8], room: &mut [u8]) -> Night
+    requires { ⌜ Ready n ⌝ }
+    requires { ⌜ Lent (now bytes) (now room) ⌝ }
+    ensures { λ r.
+        ⌜ standing r (now (room .exit)) ≡ pieceOf (n .run) (n .held) (now (bytes .entry)) ⌝ }
+    ensures { λ r. ⌜ Ready r ⌝ }
+{
+    let mut run = n.run;
+    let mut held = n.held;
     let mut at = 0;
-    while at < bytes.len() && night.going {
-        let s = answer_some(night, &bytes[at..], room);
-        night = s.night;
-        let eaten = s.eaten;
-        if eaten == 0 {
-            return night;
-        }
-        if bytes.len() - at < eaten {
-            return night;
-        }
-        at += eaten;
+    let mut put = 0;
+    while at < bytes.len() {
+        let most = smaller_of(BATCH, bytes.len() - at);
+        let end = put + most * LONGEST_ANSWER;
+        let s = serving::serve(run, held, &bytes[at..], &mut room[put..end]);
+        run = s.run;
+        held = s.held;
+        at += s.eaten;
+        put += s.put;
     }
-    night
+    Night {
+        run,
+        held,
+        put,
+        going: true,
+    }
 }
 
 // "or an unclosed last one": it is answered as another line.
-fn answer_last(n: Night) {
-    let h = n.held;
-    let mut line = [0u8; LONGEST_ANSWER];
+fn answer_last(h: Held, room: &mut [u8]) -> usize
+    requires { ⌜ h ≡ heldOf (lineIn h) ⌝ }
+    requires { ⌜ longestAnswer ≤ length (now room) ⌝ }
+    ensures { λ r. ⌜ take r (now (room .exit)) ≡ lastText (lineIn h) ⌝ }
+{
     if 0 < h.len {
-        let k = printer::put_another(&mut line, 0);
-        files::write_first(&line, k);
+        return printer::put_another(room, 0);
+    }
+    0
+}
+
+// One turn: what was read is answered; at the end of the file, the line that is held.
+fn next(n: Night, how: How, bytes: &[u8], room: &mut [u8]) -> Night
+    requires { ⌜ Ready n ⌝ }
+    requires { ⌜ Lent (now bytes) (now room) ⌝ }
+    ensures { λ r.
+        ⌜ standing r (now (room .exit)) ≡ turnOf (n .run) (n .held) how (now (bytes .entry)) ⌝ }
+    ensures { λ r. ⌜ Ready r ⌝ }
+{
+    match how {
+        How::On => answer_piece(n, bytes, room),
+        How::End => {
+            let held = n.held;
+            let put = answer_last(held, room);
+            Night {
+                put,
+                going: false,
+                ..n
+            }
+        }
+        How::Failed => Night {
+            put: 0,
+            going: false,
+            ..n
+        },
     }
 }
 
-// Reads once and answers; the night goes on as long as something was read.
-fn next_piece(n: Night, fd: i32) -> Night {
-    let mut buf = [0u8; PIECE];
-    let got = files::take_piece(fd, &mut buf);
-    let k = got.len;
+// The whole file. Nothing else reads or writes.
+fn answer_all(n: Night, fd: i32)
+    requires { ⌜ Ready n ⌝ }
+{
     let mut night = n;
-    if !got.whole {
-        night.going = false;
-        return night;
-    }
-    if k == 0 {
-        answer_last(night);
-        night.going = false;
-        return night;
-    }
+    let mut piece = [0u8; PIECE];
     let mut room = [0u8; ROOM];
-    answer_piece(night, &buf[..k], &mut room)
-}
-
-// A proved loop has to end, and nothing says that a file does: the turns are counted down from a
-// number that no file uses up.
-fn answer_all(n: Night, fd: i32) {
-    let mut night = n;
-    let mut turns = u64::MAX;
+    let mut turns = files::TURNS;
     while 0 < turns && night.going {
-        night = next_piece(night, fd);
+        let got = files::take_piece(fd, &mut piece);
+        let k = got.len;
+        let how = got.how;
+        night = next(night, how, &piece[..k], &mut room);
+        let put = night.put;
+        if !files::write_first(&room, put) {
+            return;
+        }
         turns -= 1;
     }
 }
 
 fn main() {
+    let help = b"night TABLE EVENTS\n\
+        Prints the answer to each line of the file EVENTS, from a fresh start with the\n\
+        table in TABLE.\n\
+        A table that is refused prints one line: table, no, number, line (for 5 both).\n\
+        `-` stands for standard input. README.md has the forms and the numbers.\n";
+    if files::asked_for_help(help) {
+        return;
+    }
     if !files::called_with(3, b"night TABLE EVENTS") {
         return;
     }
@@ -110,11 +152,19 @@ fn main() {
     if events < 0 {
         return;
     }
-    let given = files::given::take_table(table);
-    if !given.there {
+    if table == events {
+        io::write_all(STDERR_FILENO, b"night: standard input is given twice\n");
         return;
     }
+    let given = files::given::take_table(table);
     let t = given.table;
+    let case = given.case;
+    let Case::Read(answer) = case else {
+        return;
+    };
+    let Reading::Taken = answer else {
+        return;
+    };
     let started = scheduler::start(t);
     let run = started.run;
     let held = cutter::no_line();
@@ -122,6 +172,7 @@ fn main() {
         Night {
             run,
             held,
+            put: 0,
             going: true,
         },
         events,

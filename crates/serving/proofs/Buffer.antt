@@ -56,6 +56,29 @@ pub answered-none : (r : Run) (h : Held) → AnsweredBy r h [] [] r h
 unfolding linesIn leftIn afterLines answerLines closed
 answered-none r h = record { run = refl; held = refl; out = refl }
 
+-- Bytes after bytes.
+pub answered-join : (r : Run) (h : Held) (xs s : List ℕ) (z : Run) (k : Held) → AnsweredBy r h xs s z k →
+    (ys t : List ℕ) (w : Run) (j : Held) → AnsweredBy z k ys t w j → AnsweredBy r h (xs ++ ys) (s ++ t) w j
+answered-join r h xs s z k a ys t w j b =
+    let before = linesIn (lineIn h) xs in
+    let ls = linesIn (lineIn k) ys in
+    let all : linesIn (lineIn h) (xs ++ ys) ≡ before ++ ls =
+    lines-append (lineIn h) xs ys ∙
+    ap (λ x. before ++ x) (sym (alike-lines (lineIn k) (leftIn (lineIn h) xs) ys (a .held))) in
+    record {
+      run = b .run ∙ ap (λ x. afterLines x ls) (a .run) ∙ sym (after-append r before ls) ∙ sym (ap (afterLines r) all);
+      held =
+          b .held ∙ alike-left (lineIn k) (leftIn (lineIn h) xs) ys (a .held) ∙
+          sym (ap heldOf (left-append (lineIn h) xs ys));
+      out =
+          ap (λ x. s ++ x) (b .out) ∙
+          ap (λ x. x ++ closed (answerLines z ls)) (a .out) ∙
+          ap (λ x. closed (answerLines r before) ++ closed (answerLines x ls)) (a .run) ∙
+          sym (closed-append (answerLines r before) (answerLines (afterLines r before) ls)) ∙
+          sym (ap closed (answers-append r before ls)) ∙
+          sym (ap (λ x. closed (answerLines r x)) all);
+    }
+
 -- the bytes of a buffer that were taken, and what was put into the room
 abbrev pub eatenOf : Buffered → List ℕ → List ℕ
 eatenOf s bytes = take (s .served .eaten) bytes
@@ -73,35 +96,18 @@ module _ (r : Run) (h : Held) (bytes text : List ℕ) (z : Run) (k : Held) (a : 
   next-none : (why : Refusal) → Next (record { served = untaken why z k; room = room })
   next-none why = rw (append-nil bytes, append-nil text) a
 
-  next-lines : (some : List ℕ) →
-      linesIn (lineIn h) (bytes ++ some) ≡ linesIn (lineIn h) bytes ++ linesIn (lineIn k) some
-  next-lines some =
-      lines-append (lineIn h) bytes some ∙
-      ap (λ x. linesIn (lineIn h) bytes ++ x) (sym (alike-lines (lineIn k) (leftIn (lineIn h) bytes) some (a .held)))
-
   -- some lines are
   next-first : (n : ℕ) → Next (servedFrom z (cutting n (lineIn k) more) room)
   unfolding cutting
   next-first n =
       let some = take (takenFor n more) more in
-      let before = linesIn (lineIn h) bytes in
-      let ls = linesIn (lineIn k) some in
-      let line = closed (answerLines z ls) in
-      record {
-        run = ap (λ x. afterLines x ls) (a .run) ∙ sym (after-append r before ls) ∙ sym
-            (ap (afterLines r) (next-lines some));
-        held =
-            held-again (leftIn (lineIn k) some) ∙
-            alike-left (lineIn k) (leftIn (lineIn h) bytes) some (a .held) ∙
-            sym (ap heldOf (left-append (lineIn h) bytes some));
-        out =
-            ap (λ x. text ++ x) (take-append-seam line (drop (length line) room)) ∙
-            ap (λ x. x ++ line) (a .out) ∙
-            ap (λ x. closed (answerLines r before) ++ closed (answerLines x ls)) (a .run) ∙
-            sym (closed-append (answerLines r before) (answerLines (afterLines r before) ls)) ∙
-            sym (ap closed (answers-append r before ls)) ∙
-            sym (ap (λ x. closed (answerLines r x)) (next-lines some));
-      }
+      let line = closed (answerLines z (linesIn (lineIn k) some)) in
+      answered-join r h bytes text z k a some _ _ _
+      (record {
+        run = refl;
+        held = held-again (leftIn (lineIn k) some);
+        out = take-append-seam line (drop (length line) room);
+      })
 
   pub answered-more : Next (serveOf z k more room)
   unfolding serveOf
@@ -117,12 +123,12 @@ module _ (r : Run) (h : Held) (bytes text : List ℕ) (z : Run) (k : Held) (a : 
       go true true = next-first (linesAtOnce (length room))
 
 -- The file ends: from a start with nothing held, what is answered is what the night says.
-some-held : (b : ℕ) (l : List ℕ) → 0 < heldOf (b ∷ l) .len
+pub some-held : (b : ℕ) (l : List ℕ) → 0 < heldOf (b ∷ l) .len
 unfolding heldOf tooLong
 some-held b l =
     if-ind (λ (x : Held). 0 < x .len) (leb (length (b ∷ l)) longest) (λ e. omega arith) (λ e. omega arith)
 
-none-len : heldOf [] .len ≡ 0
+pub none-len : heldOf [] .len ≡ 0
 unfolding heldOf longest
 none-len = refl
 

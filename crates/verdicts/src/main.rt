@@ -1,13 +1,27 @@
-// verdicts TABLE: for each server row its number and its response in N, D1 and D2, `misses` where there is none; a refused table as its
-// one line.
+// verdicts TABLE: for each server row its number and its response in N, D1 and D2, `misses` where
+// there is none; a refused table as its one line. The page is made by `put_page`, which neither
+// reads nor writes (specs/Page.antt).
 
 use decimal::put::put_all;
+use decimal::put::put_byte;
 use decimal::put::put_number;
+use files::given::Case;
 use table::Mode;
 use table::Table;
+use text::Reading;
 use verdict::Verdict;
+ghost use mathlib.Core.List.{[], _∷_, _++_};
+ghost use Rattle.decimal.specs.Lines.{tab, closed};
+ghost use Rattle.decimal.specs.Room.{Put};
+ghost use Rattle.verdicts.specs.Page.{verdictWord, verdictField, rowLine, page};
 
-fn put_verdict(v: Verdict, room: &mut [u8], at: usize) -> usize {
+// A row has at most a number of 2 digits and three verdicts of 10 bytes, with what parts and closes
+// them.
+const ROOM: usize = table::SERVERS * 64;
+
+fn put_verdict(v: Verdict, room: &mut [u8], at: usize) -> usize
+    ensures { λ r. ⌜ Put (verdictWord v) (now (room .entry)) at (now (room .exit)) r ⌝ }
+{
     match v {
         Verdict::Response(r) => put_number(r.0 as u64, room, at),
         Verdict::Misses => put_all(b"misses", room, at),
@@ -15,28 +29,49 @@ fn put_verdict(v: Verdict, room: &mut [u8], at: usize) -> usize {
     }
 }
 
-// A tab and the verdict for a row in a mode.
-fn put_mode(t: Table, row: usize, m: Mode, room: &mut [u8], at: usize) -> usize {
-    let a = put_all(b"\t", room, at);
+// The verdict for a row in a mode, and the tab after it.
+fn put_field(t: Table, row: usize, m: Mode, room: &mut [u8], at: usize) -> usize
+    ensures { λ r.
+        ⌜ Put (verdictField t row m ++ (tab ∷ [])) (now (room .entry)) at (now (room .exit)) r ⌝ }
+{
     let v = verdict::verdict_of(t, row, m);
-    put_verdict(v, room, a)
+    let k = put_verdict(v, room, at);
+    put_byte(b'\t', room, k)
 }
 
-fn put_row(t: Table, row: usize, room: &mut [u8], at: usize) -> usize {
-    let a = put_number(row as u64, room, at);
-    let b = put_mode(t, row, Mode::N, room, a);
-    let c = put_mode(t, row, Mode::D1, room, b);
-    let d = put_mode(t, row, Mode::D2, room, c);
-    put_all(b"\n", room, d)
+fn put_row(t: Table, row: usize, room: &mut [u8], at: usize) -> usize
+    ensures { λ r.
+        ⌜ Put (closed (rowLine t row ∷ [])) (now (room .entry)) at (now (room .exit)) r ⌝ }
+{
+    let k = put_number(row as u64, room, at);
+    let k = put_byte(b'\t', room, k);
+    let k = put_field(t, row, Mode::N, room, k);
+    let k = put_field(t, row, Mode::D1, room, k);
+    let v = verdict::verdict_of(t, row, Mode::D2);
+    let k = put_verdict(v, room, k);
+    put_byte(b'\n', room, k)
 }
 
-fn say_row(t: Table, row: usize) {
-    let mut line = [0u8; 64];
-    let n = put_row(t, row, &mut line, 0);
-    files::write_first(&line, n);
+fn put_page(t: Table, room: &mut [u8]) -> usize
+    ensures { λ r. ⌜ Put (page t) (now (room .entry)) 0 (now (room .exit)) r ⌝ }
+{
+    let n = t.nservers;
+    let mut k = 0;
+    for row in 0..n {
+        k = put_row(t, row, room, k);
+    }
+    k
 }
 
 fn main() {
+    let help = b"verdicts TABLE\n\
+        Prints for each server row of the table in the file TABLE its number and its\n\
+        response in N, D1 and D2, in ticks, `misses` where there is none.\n\
+        A table that is refused prints one line: table, no, number, line (for 5 both).\n\
+        `-` stands for standard input. README.md has the form and the numbers.\n";
+    if files::asked_for_help(help) {
+        return;
+    }
     if !files::called_with(2, b"verdicts TABLE") {
         return;
     }
@@ -46,9 +81,14 @@ fn main() {
     }
     let given = files::given::take_table(fd);
     let t = given.table;
-    if given.there {
-        for row in 0..t.nservers {
-            say_row(t, row);
-        }
-    }
+    let case = given.case;
+    let Case::Read(answer) = case else {
+        return;
+    };
+    let Reading::Taken = answer else {
+        return;
+    };
+    let mut room = [0u8; ROOM];
+    let n = put_page(t, &mut room);
+    files::write_first(&room, n);
 }

@@ -1,6 +1,6 @@
 -- `files::write_first` meets its contract: the part that is written ends within the room, and it
 -- has n bytes. Assumes nothing.
-use mathlib.Core.Path.{refl, sym, _∙_}
+use mathlib.Core.Path.{refl, sym}
 use native.Mathlib.Omega.{arith}
 use lib.Seq.{length-take-le}
 use borrow.Author.Needs.{needs}
@@ -8,7 +8,7 @@ use Rattle.files.proofs.write_first.Statement.{statement}
 use Rattle.files.proofs.write_first.Tie as tie
 
 returns : tie.Need-returns
-returns c = record { beyond = λ h. refl; nothing = λ none. absurd (omega arith) }
+returns c = record { beyond = λ h. refl; first = λ h. absurd (omega arith) }
 
 slice-aggregate-write-out : tie.Need-slice-aggregate-write-out
 slice-aggregate-write-out c =
@@ -21,11 +21,8 @@ write-out-requires c κs = search needs
 returns-2 : tie.Need-returns-2
 returns-2 c =
     let s = c .before .before .before .before .args in
-    let within = c .before .before .if1 .left in
-    record {
-      beyond = λ h. absurd (omega arith);
-      nothing = λ none. c .write-out .ensures (length-take-le (s .n) (s .room .now) within ∙ none);
-    }
+    let whole = length-take-le (s .n) (s .room .now) (c .before .before .if1 .left) in
+    record { beyond = λ h. absurd (omega arith); first = λ h. rw whole at (c .write-out .ensures) }
 
 pub write-first-spec : {M : Type 1} → statement M
 write-first-spec =

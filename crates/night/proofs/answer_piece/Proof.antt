@@ -1,71 +1,154 @@
--- `night::answer_piece` is safe and ends: each turn takes a byte at least. Assumes nothing.
-use mathlib.Core.Path.{_≡_}
-use Prim.Native.Nat.{_≤_, _-_}
-use lib.ListN.{length}
+use mathlib.Core.Path.{refl, sym, _∙_}
+use mathlib.Core.List.{_++_}
+use Prim.Native.Nat.{_+_, _*_, _-_, _≤_, _<_}
+use lib.ListN.{length, take, drop, length-map}
+use native.Mathlib.Omega.{arith}
+use Rattle.run.proofs.Shape.{RunShaped}
+use Rattle.night.proofs.Pieces.{Going, going-start, going-sound, going-next, going-done}
 use borrow.Author.Needs.{needs}
 use Rattle.night.proofs.answer_piece.Statement.{statement}
 use Rattle.night.proofs.answer_piece.Tie as tie
 
 abbrev Inv-loop : tie.InvT-loop
-Inv-loop bytes room₀ night₀ at₀ room night at = (at ≤ length bytes) × (length room ≡ length room₀)
+Inv-loop bytes room₀ run₀ held₀ at₀ put₀ room run held at put =
+    Going run₀ held₀ bytes at put room run held × (length bytes ≤ 4096)
 
 abbrev μ-loop : tie.MeasureT-loop
-μ-loop bytes room₀ night₀ at₀ room night at = length bytes - at
+μ-loop bytes room₀ run₀ held₀ at₀ put₀ room run held at put = length bytes - at
+
+shaped : (c : tie.Start Inv-loop μ-loop) → RunShaped (c .args .n .run)
+shaped c =
+    let g = c .good .0 .1 .1 .0 .1 .1 .0 .1 .1 in
+    record {
+      table =
+          record {
+            servers = sym (length-map (c .args .n .run .table .servers) _) ∙ g .1 .1 .1 .0 .1 .0 .1;
+            tasks = sym (length-map (c .args .n .run .table .tasks) _) ∙ g .1 .1 .1 .1 .0 .1 .0 .1;
+          };
+      state =
+          record {
+            used = search needs;
+            elapsed = search needs;
+            waiting = search needs;
+            runs = search needs;
+          };
+    }
+
+-- after a batch
+served : (c : tie.After-serve Inv-loop μ-loop) →
+    let l = c .before .before .before .before .before .loop in
+    let s = c .before .before .before .before .before .before .before .before .before .before in
+    let x = c .serve .result in
+    let many = l .put + c .before .before .before .smaller-of .result * 140 - l .put in
+    (0 < x .eaten) ×
+    Going (s .args .n .run) (s .args .n .held) (s .args .bytes .now) (l .at + x .eaten)
+    (l .put + x .put)
+    (take (l .put) (l .room) ++ (c .serve .last .1 .1 .1 .0 ++ drop many (drop (l .put) (l .room))))
+    (x .run) (x .held)
+served c =
+    let l = c .before .before .before .before .before .loop in
+    let s = c .before .before .before .before .before .before .before .before .before .before in
+    let n = s .args .n in
+    let k = c .before .before .before .smaller-of in
+    going-next (n .run) (n .held) (s .args .bytes .now) (shaped s) (s .pre .0 .sound) (l .at)
+    (l .put) (l .room) (l .run)
+    (l .held) (l .inv .0) (c .before .before .before .before .loop-test .taken) (l .inv .1)
+    (k .result) (k .ensures) (l .put + k .result * 140) refl
+    (c .serve .result) (c .serve .last .1 .1 .1 .0) (c .serve .kept .1 .1 .1 .0) (c .serve .ensures)
 
 loop-holds : tie.Need-loop-holds Inv-loop μ-loop
-loop-holds c = search needs
+loop-holds c =
+    let s = c .before .before .before .before in
+    let n = s .args .n in (
+      going-start (n .run) (n .held) (s .args .bytes .now) (shaped s) (s .pre .0 .sound)
+          (s .args .room .now)
+          (s .pre .1 .long) (s .pre .0 .held),
+      s .pre .1 .few,
+    )
 
-sub-answer-some : tie.Need-sub-answer-some Inv-loop μ-loop
-sub-answer-some c = search needs
+sub-smaller-of : tie.Need-sub-smaller-of Inv-loop μ-loop
+sub-smaller-of c = search needs
 
-part-answer-some-start : tie.Need-part-answer-some-start Inv-loop μ-loop
-part-answer-some-start c = search needs
+smaller-of-requires : tie.Need-smaller-of-requires Inv-loop μ-loop
+smaller-of-requires c κs = search needs
 
-part-answer-some-end : tie.Need-part-answer-some-end Inv-loop μ-loop
-part-answer-some-end c = search needs
+mul-end : tie.Need-mul-end Inv-loop μ-loop
+mul-end c = search needs
 
-answer-some-requires : tie.Need-answer-some-requires Inv-loop μ-loop
-answer-some-requires c κs = search needs
+add-end : tie.Need-add-end Inv-loop μ-loop
+add-end c = search needs
+
+sub-serve : tie.Need-sub-serve Inv-loop μ-loop
+sub-serve c = search needs
+
+part-serve-start : tie.Need-part-serve-start Inv-loop μ-loop
+part-serve-start c = search needs
+
+part-serve-end : tie.Need-part-serve-end Inv-loop μ-loop
+part-serve-end c = search needs
+
+sub-serve-2 : tie.Need-sub-serve-2 Inv-loop μ-loop
+sub-serve-2 c = search needs
+
+part-serve-start-2 : tie.Need-part-serve-start-2 Inv-loop μ-loop
+part-serve-start-2 c = search needs
+
+part-serve-end-2 : tie.Need-part-serve-end-2 Inv-loop μ-loop
+part-serve-end-2 c = search needs
+
+serve-requires : tie.Need-serve-requires Inv-loop μ-loop
+serve-requires c κs = search needs
+
+-- from the end of a turn to the batch
+abbrev batched : tie.After-struct-known2 Inv-loop μ-loop → tie.After-serve Inv-loop μ-loop
+batched c = c .before .before .before .before .before .before
+
+short : (c : tie.After-serve Inv-loop μ-loop) →
+    let s = c .before .before .before .before .before .before .before .before .before .before in
+    length (s .args .bytes .now) ≤ 4096
+short c = c .before .before .before .before .before .loop .inv .1
+
+add-at : tie.Need-add-at Inv-loop μ-loop
+add-at c =
+    let s = c .before .before .before .before .before in
+    omega (arith, served s .1 .within, short s)
+
+add-put : tie.Need-add-put Inv-loop μ-loop
+add-put c =
+    let s = c .before .before .before .before .before .before in
+    omega (arith, served s .1 .few, served s .1 .within, short s)
+
+loop-less : tie.Need-loop-less Inv-loop μ-loop
+loop-less c =
+    let s = batched c in
+    omega (arith, served s .0, s .before .before .before .before .loop-test .taken)
+
+loop-again : tie.Need-loop-again Inv-loop μ-loop
+loop-again c = let s = batched c in (served s .1, short s)
 
 same-length : tie.Need-same-length Inv-loop μ-loop
 same-length c = search needs
 
 returns : tie.Need-returns Inv-loop μ-loop
-returns c = search needs
-
-sub-if3 : tie.Need-sub-if3 Inv-loop μ-loop
-sub-if3 c = search needs
-
-same-length-2 : tie.Need-same-length-2 Inv-loop μ-loop
-same-length-2 c = search needs
-
-returns-2 : tie.Need-returns-2 Inv-loop μ-loop
-returns-2 c = search needs
-
-add-at : tie.Need-add-at Inv-loop μ-loop
-add-at c = search needs
-
-loop-less : tie.Need-loop-less Inv-loop μ-loop
-loop-less c = search needs
-
-loop-again : tie.Need-loop-again Inv-loop μ-loop
-loop-again c = search needs
-
-same-length-3 : tie.Need-same-length-3 Inv-loop μ-loop
-same-length-3 c = search needs
-
-returns-3 : tie.Need-returns-3 Inv-loop μ-loop
-returns-3 c = search needs
-
-same-length-4 : tie.Need-same-length-4 Inv-loop μ-loop
-same-length-4 c = search needs
-
-returns-4 : tie.Need-returns-4 Inv-loop μ-loop
-returns-4 c = search needs
+returns c =
+    let s = c .before .before .before .before .before .before in
+    let n = s .args .n in
+    let l = c .before .loop in (
+      going-done (n .run) (n .held) (s .args .bytes .now) (shaped s) (s .pre .0 .sound) (l .at)
+          (l .put) (l .room)
+          (l .run) (l .held) (l .inv .0) (c .loop-test .left),
+      record {
+        sound =
+            going-sound (n .run) (n .held) (s .args .bytes .now) (shaped s) (s .pre .0 .sound)
+            (l .at) (l .put) (l .room)
+            (l .run) (l .held) (l .inv .0);
+        held = l .inv .0 .held;
+      },
+    )
 
 pub answer-piece-spec : {M : Type 1} → statement M
 answer-piece-spec =
     tie.close
-    (tie.spec Inv-loop μ-loop loop-holds sub-answer-some part-answer-some-start part-answer-some-end
-    answer-some-requires same-length returns sub-if3 same-length-2 returns-2 add-at loop-less
-    loop-again same-length-3 returns-3 same-length-4 returns-4)
+    (tie.spec Inv-loop μ-loop loop-holds sub-smaller-of smaller-of-requires mul-end add-end
+    sub-serve part-serve-start part-serve-end sub-serve-2 part-serve-start-2 part-serve-end-2
+    serve-requires add-at add-put loop-less loop-again same-length returns)
