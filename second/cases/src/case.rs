@@ -15,11 +15,17 @@ pub struct Case {
     pub events: Vec<u8>,
 }
 
+/// The cases from this number on are long nights.
+pub const LONG: u64 = 1_000_000_000;
+
 impl Case {
     /// The case of a seed with a number, always the same one.
     pub fn make(seed: u64, number: u64) -> Case {
         let mut random = Random::for_case(seed, number);
         let random = &mut random;
+        if number >= LONG {
+            return Case::long(random);
+        }
         let (good, name) = match random.below(100) {
             0..=35 => (table::small(random), "good-small".to_string()),
             36..=39 => (table::middle(random), "good-middle".to_string()),
@@ -36,6 +42,16 @@ impl Case {
         Case { name, table: text_of(&good.lines()), events }
     }
 
+    fn long(random: &mut Random) -> Case {
+        let good = match random.below(4) {
+            0 => table::middle(random),
+            1 => table::at_bound(random).0,
+            _ => table::small(random),
+        };
+        let events = events::long_events(good.tasks.len(), random);
+        Case { name: "good-long".to_string(), table: text_of(&good.lines()), events }
+    }
+
     /// Writes the two files, `table` and `events`, into a folder that is there.
     pub fn write_to(&self, folder: &Path) -> io::Result<()> {
         fs::write(folder.join("table"), &self.table)?;
@@ -45,11 +61,11 @@ impl Case {
 
 #[cfg(test)]
 mod tests {
-    use super::Case;
+    use super::{Case, LONG};
 
     #[test]
     fn a_case_is_the_same_every_time() {
-        for number in 0..200 {
+        for number in (0..200).chain(LONG..LONG + 10) {
             let (one, other) = (Case::make(5, number), Case::make(5, number));
             assert_eq!(one.name, other.name);
             assert_eq!(one.table, other.table);

@@ -8,7 +8,7 @@ use std::sync::atomic::{AtomicBool, AtomicU64, Ordering};
 use std::sync::Mutex;
 use std::thread;
 
-use crate::case::Case;
+use crate::case::{Case, LONG};
 use crate::coverage::Coverage;
 
 const PROGRAMS: [&str; 3] = ["night", "verdicts", "rewrite"];
@@ -20,6 +20,8 @@ pub struct Options {
     pub second: PathBuf,
     pub seed: u64,
     pub count: u64,
+    /// How many long nights there are after the others.
+    pub long: u64,
     /// Where the files of differing cases are kept.
     pub keep: Option<PathBuf>,
     pub threads: u64,
@@ -36,7 +38,7 @@ struct Totals {
 
 /// Compares all cases; gives whether all passed and nothing was left unseen.
 pub fn compare(options: &Options) -> Result<bool, String> {
-    println!("seed {}, {} cases", options.seed, options.count);
+    println!("seed {}, {} cases, {} long nights", options.seed, options.count, options.long);
     let folder = std::env::temp_dir().join(format!("cases-{}", std::process::id()));
     let totals = Mutex::new(Totals::default());
     let next = AtomicU64::new(0);
@@ -69,7 +71,7 @@ pub fn compare(options: &Options) -> Result<bool, String> {
     for (name, count) in &totals.names {
         println!("{count:>10}  {name}");
     }
-    let complete = totals.coverage.print();
+    let complete = totals.coverage.print(options.long > 0);
     println!("{} passed, {} failed", totals.passed, totals.failed);
     Ok(totals.failed == 0 && complete)
 }
@@ -84,10 +86,11 @@ fn work(
 ) -> Result<(), String> {
     fs::create_dir_all(folder).map_err(|error| failed("make", folder, &error))?;
     while !stop.load(Ordering::Relaxed) {
-        let number = next.fetch_add(1, Ordering::Relaxed);
-        if number >= options.count {
+        let taken = next.fetch_add(1, Ordering::Relaxed);
+        if taken >= options.count + options.long {
             break;
         }
+        let number = if taken < options.count { taken } else { LONG + taken - options.count };
         let case = Case::make(options.seed, number);
         case.write_to(folder).map_err(|error| failed("write to", folder, &error))?;
         let runs = run_all(options, folder)?;
@@ -97,7 +100,10 @@ fn work(
         for (program, run) in PROGRAMS.iter().zip(&runs) {
             let output = &run.second.stdout;
             match *program {
-                "night" => coverage.night(output),
+                "night" => {
+                    coverage.night(output);
+                    coverage.seams(&case.events, output);
+                }
                 "verdicts" => coverage.verdicts(output),
                 _ => coverage.rewrite(&case.table, output),
             }
@@ -150,7 +156,8 @@ impl Run {
             }
         }
         if self.first.stdout == self.second.stdout {
-            return None;
+            let (one, other) = (self.first.status, self.second.status);
+            return (one != other).then(|| format!("first ended with {one}, second with {other}"));
         }
         let mut first = self.first.stdout.split_inclusive(|&byte| byte == b'\n');
         let mut second = self.second.stdout.split_inclusive(|&byte| byte == b'\n');

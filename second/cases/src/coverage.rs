@@ -37,6 +37,42 @@ const WANTED: [&str; 31] = [
     "verdict misses",
 ];
 
+/// A place where programs cut what they work on, whatever the lines are: so many
+/// bytes read, so many bytes of answers, so many lines taken at once. The counts
+/// are of cuts in a release, in a tick, in another line and at a line's end.
+struct Seam {
+    size: usize,
+    counts: [&'static str; 4],
+}
+
+const READ: Seam = Seam {
+    size: 16_384,
+    counts: [
+        "read cut in a release",
+        "read cut in a tick",
+        "read cut in another line",
+        "read cut at a line's end",
+    ],
+};
+const WRITTEN: Seam = Seam {
+    size: 65_536,
+    counts: [
+        "answers cut in a release",
+        "answers cut in a tick",
+        "answers cut in another line",
+        "answers cut at a line's end",
+    ],
+};
+const BATCH: Seam = Seam {
+    size: 1_024,
+    counts: [
+        "batch ends with a release",
+        "batch ends with a tick",
+        "batch ends with another line",
+        "batch ends with the file",
+    ],
+};
+
 #[derive(Default)]
 pub struct Coverage {
     counts: BTreeMap<&'static str, u64>,
@@ -140,6 +176,33 @@ impl Coverage {
         }
     }
 
+    /// Counts what stands where a night is cut. Each line has its answer, whose
+    /// first letter tells what the line is.
+    pub fn seams(&mut self, events: &[u8], answers: &[u8]) {
+        if answers.starts_with(b"table\t") {
+            return;
+        }
+        let kinds: Vec<usize> = lines_of(answers).map(|line| kind_of(line[0])).collect();
+        for (seam, text) in [(&READ, events), (&WRITTEN, answers)] {
+            let mut end = 0;
+            for (line, kind) in lines_of(text).zip(&kinds) {
+                let start = end;
+                end += line.len();
+                if end % seam.size == 0 {
+                    self.count(seam.counts[3]);
+                } else if start / seam.size < end / seam.size {
+                    self.count(seam.counts[*kind]);
+                }
+            }
+        }
+        for batch in kinds.chunks_exact(BATCH.size) {
+            self.count(BATCH.counts[batch[BATCH.size - 1]]);
+        }
+        if !kinds.is_empty() && kinds.len() % BATCH.size == 0 {
+            self.count(BATCH.counts[3]);
+        }
+    }
+
     /// Counts the verdicts of a table.
     pub fn verdicts(&mut self, output: &[u8]) {
         for line in String::from_utf8_lossy(output).lines() {
@@ -166,21 +229,39 @@ impl Coverage {
         }
     }
 
-    /// Prints all counts; gives whether none of the wanted is 0.
-    pub fn print(&self) -> bool {
+    /// Prints all counts; gives whether none of the wanted is 0. What stands at
+    /// the seams is wanted of long nights only.
+    pub fn print(&self, long: bool) -> bool {
         println!("seen in the answers:");
+        let mut wanted = WANTED.to_vec();
+        if long {
+            wanted.extend(READ.counts.iter().chain(&WRITTEN.counts).chain(&BATCH.counts[..3]));
+        }
         let mut complete = true;
-        for what in WANTED {
+        for what in &wanted {
             let count = self.counts.get(what).copied().unwrap_or(0);
             let remark = if count == 0 { "  (must not be 0)" } else { "" };
             println!("{count:>10}  {what}{remark}");
             complete &= count > 0;
         }
         for (what, count) in &self.counts {
-            if !WANTED.contains(what) {
+            if !wanted.contains(what) {
                 println!("{count:>10}  {what}");
             }
         }
         complete
+    }
+}
+
+fn lines_of(text: &[u8]) -> impl Iterator<Item = &[u8]> {
+    text.split_inclusive(|&byte| byte == b'\n')
+}
+
+/// 0 for a release, 1 for a tick, 2 for another line.
+fn kind_of(letter: u8) -> usize {
+    match letter {
+        b'R' => 0,
+        b'T' => 1,
+        _ => 2,
     }
 }

@@ -16,10 +16,22 @@ pub fn events(tasks: usize, random: &mut Random) -> Vec<u8> {
     if random.chance(3) {
         return Vec::new();
     }
-    let lines = random.within(50, 400) as usize;
+    let lines = random.within(50, 400);
     let odd = random.pick(&[0, 0, 1, 2, 5, 20]);
     let long_lines = random.chance(6);
+    lines_of(lines, odd, long_lines, tasks, random)
+}
 
+/// An event file that no program reads, answers or writes at once.
+pub fn long_events(tasks: usize, random: &mut Random) -> Vec<u8> {
+    let lines = random.within(1_000, 20_000);
+    let odd = random.pick(&[0, 2, 20, 60]);
+    let long_lines = odd == 2 && random.chance(20);
+    lines_of(lines, odd, long_lines, tasks, random)
+}
+
+/// An event file of so many lines, or some more.
+fn lines_of(lines: u64, odd: u64, long_lines: bool, tasks: usize, random: &mut Random) -> Vec<u8> {
     let mut text = Vec::new();
     let mut written = 0;
     while written < lines {

@@ -21,13 +21,14 @@ use case::Case;
 use random::Random;
 
 const USAGE: &str = "usage:
-  cases compare FIRST SECOND [--seed S] [--count N] [--keep DIR] [--threads T]
+  cases compare FIRST SECOND [--seed S] [--count N] [--long L] [--keep DIR] [--threads T]
   cases states FIRST SECOND [--seed S] [--count N] [--keep DIR]
   cases make --seed S --number K --out DIR
   cases big --lines N --servers A --tasks B [--seed S] --out DIR
 FIRST is a folder with executables night, verdicts and rewrite, and for states
 one states; SECOND is the binary second. Without --seed and --count: seed 1,
-2000 cases or blocks.";
+2000 cases or blocks. L nights of up to 20000 lines follow the N cases, their
+numbers K from 1000000000 on; without --long none does.";
 
 fn main() -> ExitCode {
     match choose(std::env::args().skip(1).collect()) {
@@ -51,6 +52,7 @@ fn choose(arguments: Vec<String>) -> Result<bool, String> {
                 second: PathBuf::from(second),
                 seed: arguments.number("--seed", Some(1))?,
                 count: arguments.number("--count", Some(2000))?,
+                long: arguments.number("--long", Some(0))?,
                 keep: arguments.options.remove("--keep").map(PathBuf::from),
                 threads: arguments.number("--threads", Some(2))?.clamp(1, 16),
             };
