@@ -13,14 +13,19 @@ use run::LINE_VALUES;
 use run::Taking;
 use table::Refusal;
 ghost use mathlib.Core.Path.{_≡_};
+ghost use mathlib.Core.Bool.{true};
 ghost use mathlib.Core.List.{[], _++_};
 ghost use Prim.Native.Nat.{_+_, _≤_};
 ghost use lib.ListN.{length, getD};
 ghost use lib.Seq.{sets};
-ghost use Rattle.run.specs.Values.{markValue, lineValues};
+ghost use Rattle.bytes.specs.Bytes.{indexOf, slice};
+ghost use Rattle.laws.specs.Choice.{oneIf};
+ghost use Rattle.decimal.specs.Lines.{lineFeed};
+ghost use Rattle.run.specs.Values.{lineValues};
 ghost use Rattle.lines.specs.EventLine.{eventLine};
 ghost use Rattle.lines.specs.HeldLine.{lineIn, heldOf, tooLong};
 ghost use Rattle.lines.specs.Cutting.{cutOf, cutFirst};
+ghost use Rattle.cutter.specs.Inner.{isShort};
 
 // What a line says, without its line feed: a letter, a tab, and a number after them.
 fn read_event(l: &[u8]) -> EventLine
@@ -49,10 +54,11 @@ fn read_event(l: &[u8]) -> EventLine
     EventLine::Of(Event::Tick(v == 1))
 }
 
-fn mark_value(mark: bool) -> u64
-    ensures { λ r. ⌜ r ≡ markValue mark ⌝ }
+// A test as a number, as a mark is written.
+fn one_if(holds: bool) -> u64
+    ensures { λ r. ⌜ (r ≡ oneIf holds) × (r ≤ 1) ⌝ }
 {
-    if mark {
+    if holds {
         return 1;
     }
     0
@@ -66,7 +72,7 @@ fn line_values(line: EventLine) -> [u64; LINE_VALUES]
         EventLine::Of(e) => match e {
             Event::Release(k) => [2, k as u64],
             Event::Tick(mark) => {
-                let v = mark_value(mark);
+                let v = one_if(mark);
                 [1, v]
             }
         },
@@ -149,17 +155,82 @@ fn read_line(h: Held, part: &[u8]) -> EventLine
     read_held(whole)
 }
 
-// A closed line, as its numbers from a place of the room on.
+// Whether a line is a letter, a tab and one digit. Most lines of an event file are.
+fn is_short(part: &[u8]) -> bool
+    ensures { λ r. ⌜ r ≡ isShort (now (part .entry)) ⌝ }
+{
+    if part.len() != 3 {
+        return false;
+    }
+    if part[1] != b'\t' {
+        return false;
+    }
+    if part[2] < b'0' {
+        return false;
+    }
+    part[2] <= b'9'
+}
+
+// A short line, as its numbers from a place of the room on. A processor cannot guess whether a
+// release or a tick comes next: so both numbers are sums and products of tests, and no branch asks
+// what the line says.
+fn put_short(part: &[u8], lines: &mut [u64], at: usize)
+    requires { ⌜ isShort (now part) ≡ true ⌝ }
+    requires { ⌜ at + 2 ≤ length (now lines) ⌝ }
+    ensures { λ r.
+        ⌜ now (lines .exit) ≡ sets (now (lines .entry)) at (lineValues (eventLine (now (part .entry)))) ⌝ }
+{
+    let letter = part[0];
+    let v = (part[2] - b'0') as u64;
+    let release = one_if(letter == b'R');
+    let tick = one_if(letter == b'T') * one_if(v <= 1);
+    lines[at] = 2 * release + tick;
+    lines[at + 1] = (release + tick) * v;
+}
+
+// A closed line, as its numbers from a place of the room on. A short one, of which nothing is held,
+// is not read by its fields.
 fn put_line(h: Held, part: &[u8], lines: &mut [u64], at: usize)
     requires { ⌜ at + 2 ≤ length (now lines) ⌝ }
     ensures { λ r.
         ⌜ now (lines .exit)
         ≡ sets (now (lines .entry)) at (lineValues (eventLine (lineIn h ++ now (part .entry)))) ⌝ }
 {
+    if h.len == 0 && is_short(part) {
+        put_short(part, lines, at);
+        return;
+    }
     let line = read_line(h, part);
     let v = line_values(line);
     lines[at] = v[0];
     lines[at + 1] = v[1];
+}
+
+// Where the line that begins at a place ends: at the first line feed, or with the input where there
+// is none. After a short line the line feed is the fourth byte: that is asked first, and only where
+// it is not there the end is searched for in a loop.
+fn line_end(input: &[u8], at: usize) -> usize
+    requires { ⌜ at ≤ length (now input) ⌝ }
+    ensures { λ r.
+        ⌜ r ≡ at + indexOf lineFeed (slice at (length (now (input .entry))) (now (input .entry))) ⌝ }
+    ensures { λ r. ⌜ r ≤ length (now (input .entry)) ⌝ }
+{
+    if input.len() - at < 4 {
+        return bytes::scan::find(input, at, input.len(), LINE_FEED);
+    }
+    if input[at + 3] != LINE_FEED {
+        return bytes::scan::find(input, at, input.len(), LINE_FEED);
+    }
+    if input[at] == LINE_FEED {
+        return at;
+    }
+    if input[at + 1] == LINE_FEED {
+        return at + 1;
+    }
+    if input[at + 2] == LINE_FEED {
+        return at + 2;
+    }
+    at + 3
 }
 
 // The lines of a piece, one after the other, as long as there is room for one more.
@@ -172,7 +243,7 @@ fn cut_first(h: Held, input: &[u8], lines: &mut [u64]) -> Cut
     let mut at = 0;
     let mut many = 0;
     while many < most {
-        let e = bytes::scan::find(input, at, input.len(), LINE_FEED);
+        let e = line_end(input, at);
         if e == input.len() {
             let held = hold(held, &input[at..]);
             return Cut {

@@ -27,3 +27,7 @@ within low high x = leb low x && leb x high
 -- the larger of two numbers
 abbrev pub larger : ℕ → ℕ → ℕ
 larger a b = if ltb a b then b else a
+
+-- a test as a number: 1 where it holds
+abbrev pub oneIf : Bool → ℕ
+oneIf b = if b then 1 else 0

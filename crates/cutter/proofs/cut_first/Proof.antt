@@ -25,8 +25,8 @@ returns c =
     let t = c .before .before in
     let f = t .before in
     let n = f .before in
-    going-rest _ _ _ _ _ _ _ (n .before .loop .inv) _ _ (f .find .ensures .0) (omega (arith, t .if1 .taken))
-    (f .find .ensures .1) (n .loop-test .taken) (c .hold .ensures)
+    going-rest _ _ _ _ _ _ _ (n .before .loop .inv) _ _ (f .line-end .ensures .0) (omega (arith, t .if1 .taken))
+    (f .line-end .ensures .1) (n .loop-test .taken) (c .hold .ensures)
 
 loop-again : tie.Need-loop-again Inv-loop μ-loop
 loop-again c =
@@ -34,9 +34,9 @@ loop-again c =
     let x = p .before .before .before in
     let f = x .before in
     let n = f .before in
-    going-line _ _ _ _ _ _ _ (n .before .loop .inv) _ _ _ (f .find .ensures .0)
-    (lt-of-le-ne (f .find .ensures .1) (x .if1 .left))
-    (n .loop-test .taken) (omega (arith, f .find .ensures .0)) (c .no-line .ensures) (p .put-line .ensures)
+    going-line _ _ _ _ _ _ _ (n .before .loop .inv) _ _ _ (f .line-end .ensures .0)
+    (lt-of-le-ne (f .line-end .ensures .1) (x .if1 .left))
+    (n .loop-test .taken) (omega (arith, f .line-end .ensures .0)) (c .no-line .ensures) (p .put-line .ensures)
 
 same-length-2 : tie.Need-same-length-2 Inv-loop μ-loop
 same-length-2 c = c .before .before .before .loop .inv .same

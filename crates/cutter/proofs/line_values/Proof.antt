@@ -9,7 +9,7 @@ returns c = rw (c .before .before .before .before .line .given .1, c .before .e 
 returns-2 : tie.Need-returns-2
 returns-2 c =
     let m = c .before in
-    rw (m .before .before .before .before .line .given .1, m .before .e2 .given .1, c .mark-value .ensures)
+    rw (m .before .before .before .before .line .given .1, m .before .e2 .given .1, c .one-if .ensures .0)
 
 pub line-values-spec : {M : Type 1} → statement M
 line-values-spec =
