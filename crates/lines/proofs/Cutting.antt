@@ -172,6 +172,15 @@ cut-line n l (b ∷ bs) h = go (eqb b lineFeed) refl h (cut-line n (l ++ (b ∷ 
         (ih (omega (arith, rw e at k))) ∙
         rw (e, append-assoc l (b ∷ []) (take j bs), s)
 
+-- no more bytes are taken than there are
+pub taken-within : (k : ℕ) (bs : List ℕ) → takenFor k bs ≤ length bs
+unfolding takenFor
+taken-within zero bs = omega arith
+taken-within (suc k) [] = omega arith
+taken-within (suc k) (b ∷ bs) =
+    if-ind (λ m. suc m ≤ suc (length bs)) (eqb b lineFeed) (λ e. omega (arith, taken-within k bs))
+    (λ e. omega (arith, taken-within (suc k) bs))
+
 -- at most as many lines as there is room for
 pub cut-few : (n : ℕ) (l bs : List ℕ) → length (cutting n l bs .lines) ≤ n
 cut-few zero l bs = omega (arith, ap (λ (c : Cutting). length (c .lines)) (cut-none l bs))

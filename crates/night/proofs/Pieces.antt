@@ -29,6 +29,7 @@ use Rattle.lines.specs.AnswerLine.{anotherFields, closedLine}
 use Rattle.lines.specs.Print.{longestAnswer}
 use Rattle.lines.specs.EventLine.{eventLines}
 use Rattle.lines.specs.Night.{answerLines, nightLines, night}
+use Rattle.lines.proofs.Cutting.{taken-within}
 use Rattle.lines.proofs.HeldLine.{held-again}
 use Rattle.serving.specs.declared.Served.{Served}
 use Rattle.serving.specs.Buffer.{batch, linesAtOnce, Buffered, servedFrom, serveOf}
@@ -38,7 +39,7 @@ use Rattle.files.specs.declared.How.{How}
 use Rattle.files.specs.declared.How.the-variants.{On, End, Failed}
 use Rattle.night.specs.Pieces.{pieceOf, lastText, turnOf, written, joined}
 
--- of some bytes, room for n lines takes n at least, and no more than there are
+-- of some bytes, room for n lines takes n at least
 taken-enough : (n k : ℕ) (bs : List ℕ) → n ≤ k → n ≤ length bs → n ≤ takenFor k bs
 unfolding takenFor
 taken-enough zero k bs h l = omega arith
@@ -48,14 +49,6 @@ taken-enough (suc n) (suc k) (b ∷ bs) h l =
     if-ind (λ m. suc n ≤ suc m) (eqb b lineFeed)
     (λ e. omega (arith, taken-enough n k bs (omega arith) (omega arith)))
     (λ e. omega (arith, taken-enough n (suc k) bs (omega arith) (omega arith)))
-
-taken-within : (k : ℕ) (bs : List ℕ) → takenFor k bs ≤ length bs
-unfolding takenFor
-taken-within zero bs = omega arith
-taken-within (suc k) [] = omega arith
-taken-within (suc k) (b ∷ bs) =
-    if-ind (λ m. suc m ≤ suc (length bs)) (eqb b lineFeed) (λ e. omega (arith, taken-within k bs))
-    (λ e. omega (arith, taken-within (suc k) bs))
 
 -- room for the answers to m lines takes m lines
 serve-first : (z : Run) (k : Held) (bytes room : List ℕ) (m : ℕ) → sound z ≡ true → 0 < m →

@@ -31,7 +31,8 @@ use Rattle.run.specs.Events.{answers}
 use Rattle.run.proofs.Taken.{release-ind, tick-ind, releaseTaken, tickedTaken}
 use Rattle.run.proofs.Shape.{Shaped, fresh-shaped}
 use Rattle.run.proofs.Sound.{state-facts}
-use Rattle.promises.specs.Bounds.{TakenTick, takenBy, takenTicks, inRow, charges, largestCapacity, elapsedFirst, normal}
+use Rattle.run.specs.Found.{TakenTick, takenBy, takenTicks}
+use Rattle.promises.specs.Bounds.{inRow, charges, largestCapacity, elapsedFirst, normal}
 use Rattle.promises.specs.Bounds.{waitsUntil, tickAnswer, tickAnswers, answersOf, wholePeriod, FirstBound, SecondBound}
 use Rattle.promises.specs.Bounds.{FromTheAnswers, PeriodsFromTheStart}
 use Rattle.promises.proofs.Accepted.{accepted}

@@ -34,7 +34,7 @@ use Rattle.run.specs.Answers.{noOf}
 use Rattle.run.specs.Release.{refused, withJob, startOf, releaseOf}
 use Rattle.run.specs.Tick.{Stepped, tickTaken, ranJob, ticked, tickOf}
 use Rattle.run.specs.Events.{eventOf}
-use Rattle.run.specs.Many.{Lent, takingNumber}
+use Rattle.run.specs.Many.{Lent, LentBoth, takingNumber}
 use Rattle.run.proofs.Refused.{refused-as-it-was, Given, ReleaseCase, release-number, release-6}
 use Rattle.run.proofs.Refused.{release-7, release-8, release-10}
 use Rattle.run.proofs.Refused.{release-13, release-taken, TickCase, tick-number, tick-9, tick-10}
@@ -42,13 +42,15 @@ use Rattle.run.proofs.Refused.{tick-13, tick-taken}
 use Rattle.run.proofs.Refused.{start-13, start-run}
 use Rattle.run.proofs.ManyLines.{ManyCase, many-number, many-12, many-13, many-taken}
 use Rattle.run.proofs.ManyLines.{many-as-it-was, many-beyond}
+use Rattle.run.proofs.ManyLines.{FindCase, find-number, find-12, find-13, find-taken}
+use Rattle.run.proofs.ManyLines.{find-as-it-was, find-beyond}
 use Rattle.lines.specs.Print.{longestAnswer}
 use Rattle.lines.proofs.Cutting.{cut-12, cut-0, cut-as-it-was, cut-beyond}
 use Rattle.lines.proofs.Print.{print-12, print-0, print-as-it-was, print-beyond}
 use Rattle.promises.specs.Condition1.{NoTableBack, NoTableKeepsNone, ReadKeeps, RowsRead}
 use Rattle.promises.specs.Condition1.{EachStart, EachRelease, EachTick, counting}
 use Rattle.promises.specs.Condition1.{NeitherCount}
-use Rattle.promises.specs.Condition1.{RefusedChangesNothing, EachMany, EachWrite, RoomEnough}
+use Rattle.promises.specs.Condition1.{RefusedChangesNothing, EachMany, EachFind, EachWrite, RoomEnough}
 use Rattle.promises.specs.Condition1.{WriteThenRead, ReadThenWrite, verdictNumber}
 use Rattle.promises.specs.Condition1.{EachVerdict}
 use Rattle.promises.specs.Condition1.{EachCut, EachPrint, AnswerLines, TableLines, PairLines}
@@ -187,6 +189,19 @@ each-many r values room =
       );
       as-it-was = many-as-it-was r values room;
       beyond = many-beyond r values room;
+    }
+
+pub each-find : EachFind
+each-find r values told found =
+    record {
+      no-13 = find-13 r values told found;
+      no-12 = find-12 r values told found;
+      taken = (
+        λ e. subst (FindCase r values told found) e (find-number r values told found),
+        λ p. ap (λ (l : LentBoth). takingNumber (l .finding .answer)) (find-taken r values told found p),
+      );
+      as-it-was = find-as-it-was r values told found;
+      beyond = find-beyond r values told found;
     }
 
 pub each-write : EachWrite

@@ -17,7 +17,8 @@ use Rattle.run.specs.declared.State.{State}
 use Rattle.run.specs.State.{elapsedAt}
 use Rattle.run.specs.Answers.{charged}
 use Rattle.run.proofs.Tick.{charged-able, able-room, charged-is}
-use Rattle.promises.specs.Bounds.{TakenTick, inRow, charges, largestCapacity, beginning, touched}
+use Rattle.run.specs.Found.{TakenTick}
+use Rattle.promises.specs.Bounds.{inRow, charges, largestCapacity, beginning, touched}
 use Rattle.promises.proofs.Accepted.{Accepted, there}
 use Rattle.promises.proofs.Ticks.{tickAt, course, Follows, account}
 use Rattle.promises.proofs.Lists.{charges-window, largest-in-row, elapsed-first}

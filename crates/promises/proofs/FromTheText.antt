@@ -17,7 +17,7 @@ use Rattle.run.proofs.Shape.{RunShaped, fresh-run-shaped, event-run-shaped}
 use Rattle.run.proofs.Refused.{start-run}
 use Rattle.run.proofs.Count.{jobs-balance}
 use Rattle.run.proofs.Slips.{never-13}
-use Rattle.promises.specs.Bounds.{takenTicks}
+use Rattle.run.specs.Found.{takenTicks}
 use Rattle.promises.specs.Condition2.{RunSized}
 use Rattle.promises.specs.FromTheText.{Promised, FromTheText}
 use Rattle.promises.proofs.Bounds.{first-bound, second-bound}

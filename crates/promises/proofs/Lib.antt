@@ -19,3 +19,4 @@ pub mod RulesSettle
 pub mod InUse
 pub mod Dummies
 pub mod Reworded
+pub mod Morning

@@ -16,7 +16,8 @@ use Rattle.table.specs.declared.Table.{Table}
 use Rattle.table.specs.Rows.{capacityAt}
 use Rattle.run.specs.State.{elapsedAt, waits}
 use Rattle.run.specs.Answers.{charged}
-use Rattle.promises.specs.Bounds.{TakenTick, inRow, charges, largestCapacity, elapsedFirst, isNormal, normal, waitsUntil}
+use Rattle.run.specs.Found.{TakenTick}
+use Rattle.promises.specs.Bounds.{inRow, charges, largestCapacity, elapsedFirst, isNormal, normal, waitsUntil}
 use Rattle.promises.proofs.Ticks.{noTick, tickAt, course}
 
 -- a tick of some in a row

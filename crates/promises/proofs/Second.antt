@@ -30,7 +30,8 @@ use Rattle.run.specs.State.{usedAt, elapsedAt, waits, fresh}
 use Rattle.run.specs.Answers.{charged}
 use Rattle.run.specs.Tick.{able}
 use Rattle.run.proofs.Tick.{timed-able, waiting-able}
-use Rattle.promises.specs.Bounds.{TakenTick, inRow, charges, elapsedFirst, normal, wholePeriod, waitsUntil}
+use Rattle.run.specs.Found.{TakenTick}
+use Rattle.promises.specs.Bounds.{inRow, charges, elapsedFirst, normal, wholePeriod, waitsUntil}
 use Rattle.promises.proofs.Accepted.{Accepted, there}
 use Rattle.promises.proofs.Ticks.{tickAt, course, Follows, account, first-used, first-elapsed, zeros}
 use Rattle.promises.proofs.Lists.{charges-window, elapsed-first, elapsed-in-row, in-row-taken, normal-at, waits-at}

@@ -20,7 +20,8 @@ use Rattle.run.specs.declared.Event.{Event}
 use Rattle.run.specs.declared.Event.the-variants.{Release, Tick}
 use Rattle.run.specs.Release.{freshRun}
 use Rattle.run.specs.Example.{byMode, server, task, rows, example}
-use Rattle.promises.specs.Bounds.{TakenTick, takenTicks, inRow, charges, largestCapacity, touched, normal, wholePeriod}
+use Rattle.run.specs.Found.{TakenTick, takenTicks}
+use Rattle.promises.specs.Bounds.{inRow, charges, largestCapacity, touched, normal, wholePeriod}
 use Rattle.promises.specs.Bounds.{waitsUntil}
 use Rattle.promises.proofs.Opened.{opened}
 use Rattle.promises.proofs.Bounds.{first-bound, second-bound}

@@ -34,13 +34,14 @@ use Rattle.run.proofs.Taken.{release-ind, tick-ind, releaseTaken, tickedTaken}
 use Rattle.run.proofs.Shape.{Shaped, job-shaped, tick-shaped}
 use Rattle.run.proofs.Tick.{used-settled, elapsed-settled, used-after, elapsed-after, answer-mode, answer-turn, charged-able}
 use Rattle.run.proofs.Tick.{able-room, charged-is, charged-le}
-use Rattle.promises.specs.Bounds.{TakenTick, takenBy, takenTicks}
+use Rattle.run.specs.Found.{TakenTick, tickTakenSo, takenBy, takenTicks}
 
 -- what stands where no tick was taken
 abbrev pub noTick : TakenTick
 noTick =
     record {
       found = fresh;
+      discarded = λ k. 0;
       answer = record { tick = record { 0 = 0 }; mode = N; turn = Idle; left = Nobody; discarded = 0 };
     }
 
@@ -81,7 +82,7 @@ follows-none t s =
 
 -- the tick that a state takes
 abbrev tickOn : Table → State → Bool → TakenTick
-tickOn t s mark = record { found = settle t s mark .state; answer = tickTaken t s mark .answer }
+tickOn t s mark = tickTakenSo (settle t s mark) (tickTaken t s mark .answer)
 
 -- it, and the ticks that follow on the state after it
 follows-one : (t : Table) (s : State) (mark : Bool) (ms : List TakenTick) → t .nservers ≤ 32 → Shaped s →

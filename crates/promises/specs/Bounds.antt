@@ -15,35 +15,16 @@ use Rattle.table.specs.Rows.{serverAt, periodAt, capacityAt, isTimed}
 use Rattle.table.specs.Rules.{tableKeeps}
 use Rattle.verdict.specs.declared.Verdict.the-variants.{Response}
 use Rattle.verdict.specs.Verdict.{verdictOf}
-use Rattle.run.specs.declared.State.{State}
 use Rattle.run.specs.declared.Run.{Run}
 use Rattle.run.specs.declared.Event.{Event}
-use Rattle.run.specs.declared.Event.the-variants.{Release, Tick}
 use Rattle.run.specs.declared.TickAnswer.{TickAnswer}
 use Rattle.run.specs.declared.Answer.{Answer}
 use Rattle.run.specs.declared.Answer.the-variants.{Released, Ticked, No}
 use Rattle.run.specs.State.{elapsedAt, waits}
 use Rattle.run.specs.Answers.{charged}
 use Rattle.run.specs.Release.{freshRun}
-use Rattle.run.specs.Tick.{settle}
-use Rattle.run.specs.Events.{eventOf, answers}
-
--- A taken tick: what step 5 finds, and what is answered.
-pub record TakenTick : Type 0 where
-  pub found : State
-  pub answer : TickAnswer
-
--- the tick, if the event is one and is taken
-abbrev pub takenBy : Run → Event → Answer → List TakenTick
-takenBy r (Release k) a = []
-takenBy r (Tick mark) (Released k) = []
-takenBy r (Tick mark) (Ticked a) = record { found = settle (r .table) (r .state) mark .state; answer = a } ∷ []
-takenBy r (Tick mark) (No why) = []
-
--- "send any events": the taken ticks among them, in order, counted from 0
-unfoldable pub takenTicks : Run → List Event → List TakenTick
-takenTicks r [] = []
-takenTicks r (e ∷ es) = takenBy r e (eventOf r e .answer) ++ takenTicks (eventOf r e .run) es
+use Rattle.run.specs.Events.{answers}
+use Rattle.run.specs.Found.{TakenTick, takenTicks}
 
 -- "W taken ticks in a row": w of them, from tick s on
 abbrev pub inRow : List TakenTick → ℕ → ℕ → List TakenTick

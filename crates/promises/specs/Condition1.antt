@@ -7,7 +7,7 @@
 -- The statements, in this order, the words of each above it: of the reader EachRead, NoTableBack,
 -- NoTableKeepsNone, ReadKeeps, RowsRead; of a line EachLine; of what is handed in TableExactly,
 -- SoundExactly; of the run EachStart, EachRelease, EachTick, NeitherCount, RefusedChangesNothing,
--- EachMany; of the writer EachWrite, RoomEnough, WriteThenRead, ReadThenWrite; EachVerdict,
+-- EachMany, EachFind; of the writer EachWrite, RoomEnough, WriteThenRead, ReadThenWrite; EachVerdict,
 -- EachCut, EachPrint; and on texts worked out by hand AnswerLines, TableLines, PairLines.
 -- proofs/Condition1.antt proves them, with Reading and Rules beside it.
 use mathlib.Core.Path.{_≡_}
@@ -60,7 +60,7 @@ use Rattle.run.specs.Answers.{noOf, startingNumber}
 use Rattle.run.specs.Release.{freshRun, startOf}
 use Rattle.run.specs.Events.{eventOf}
 use Rattle.run.specs.Values.{linesSaid}
-use Rattle.run.specs.Many.{takingNumber, Lent, manyOf}
+use Rattle.run.specs.Many.{takingNumber, Lent, manyOf, LentBoth, findOf}
 use Rattle.lines.specs.declared.Held.{Held}
 use Rattle.lines.specs.Cutting.{CutInto, cutOf}
 use Rattle.lines.specs.Print.{linesLent, PrintedInto, printOf}
@@ -482,6 +482,27 @@ abbrev pub EachMany : Type 0
 EachMany =
     (r : Run) (values room : List ℕ) →
     ManyNumbers r (length (linesSaid values)) room (manyOf r values room)
+
+-- The same where of the taken ticks among the lines is handed out what is told, nine numbers a tick,
+-- and what steps 5 and 2 find, 96 numbers a tick: each line may be one of them.
+pub record FindNumbers (r : Run) (many : ℕ) (told found : List ℕ) (x : LentBoth) : Type 0 where
+  pub no-13 : (takingNumber (x .finding .answer) ≡ 13) ↔ (sound r ≡ false)
+  -- "lent room shorter than the text"
+  pub no-12 : (takingNumber (x .finding .answer) ≡ 12) ↔
+      ((sound r ≡ true) × ((length told < 9 * many) ⊎ (length found < 96 * many)))
+  pub taken : (takingNumber (x .finding .answer) ≡ 0) ↔
+      ((sound r ≡ true) × (9 * many ≤ length told) × (96 * many ≤ length found))
+  -- "state as it was", "room as it was"
+  pub as-it-was : (takingNumber (x .finding .answer) ≡ 0 → ⊥) →
+      (x .finding .run ≡ r) × (x .finding .ticks ≡ 0) × (x .told ≡ told) × (x .found ≡ found)
+  pub beyond : let ticks = x .finding .ticks in
+      (drop (9 * ticks) (x .told) ≡ drop (9 * ticks) told)
+      × (drop (96 * ticks) (x .found) ≡ drop (96 * ticks) found)
+
+abbrev pub EachFind : Type 0
+EachFind =
+    (r : Run) (values told found : List ℕ) →
+    FindNumbers r (length (linesSaid values)) told found (findOf r values told found)
 
 -- THE WRITER: 13, then 12.
 pub record WriteNumbers (t : Table) (text room : List ℕ) (w : Wrote) : Type 0 where

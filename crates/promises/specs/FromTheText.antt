@@ -23,7 +23,8 @@ use Rattle.run.specs.Release.{startOf}
 use Rattle.run.specs.Tick.{tickOf}
 use Rattle.run.specs.Events.{eventOf, after, answers}
 use Rattle.run.specs.Count.{releasedIn, finishedIn, cutIn, discardedIn}
-use Rattle.promises.specs.Bounds.{takenTicks, inRow, charges, largestCapacity, touched}
+use Rattle.run.specs.Found.{takenTicks}
+use Rattle.promises.specs.Bounds.{inRow, charges, largestCapacity, touched}
 use Rattle.promises.specs.Bounds.{normal, wholePeriod, waitsUntil}
 use Rattle.promises.specs.Condition2.{OneTick, ByTheRules}
 

@@ -6,3 +6,4 @@ pub mod Condition2
 pub mod FromTheText
 pub mod Dummies
 pub mod InUse
+pub mod Morning

@@ -10,4 +10,5 @@ pub mod Refused
 pub mod Count
 pub mod Slips
 pub mod Values
+pub mod Found
 pub mod ManyLines

@@ -6,5 +6,6 @@ pub mod Tick
 pub mod Events
 pub mod Count
 pub mod Values
+pub mod Found
 pub mod Many
 pub mod Example

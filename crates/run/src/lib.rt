@@ -117,6 +117,24 @@ pub const LINE_VALUES: usize = 2;
 
 pub const TOLD_VALUES: usize = 9;
 
+// Where they stand, of a tick that is taken: its mode, what it says and of which server, how a job
+// left and of which task, and how many were discarded.
+pub const TOLD_MODE: usize = 2;
+
+pub const TOLD_WHAT: usize = 3;
+
+pub const TOLD_SERVER: usize = 4;
+
+pub const TOLD_HOW: usize = 6;
+
+pub const TOLD_TASK: usize = 7;
+
+pub const TOLD_DISCARDED: usize = 8;
+
+// What steps 5 and 2 find at a taken tick, as plain numbers: one for each server and one for each
+// task. (specs/Found.antt.)
+pub const FOUND_VALUES: usize = SERVERS + TASKS;
+
 // Whether many event lines were taken, or why none of them was.
 pub enum Taking {
     Taken,
@@ -127,6 +145,13 @@ pub enum Taking {
 pub struct Many {
     pub answer: Taking,
     pub run: Run,
+}
+
+// The same, and how many ticks were taken among the lines.
+pub struct Finding {
+    pub answer: Taking,
+    pub run: Run,
+    pub ticks: usize,
 }
 
 // A number of jobs, to be added up.

@@ -13,6 +13,7 @@ use crate::sheets::SERVER_CELLS;
 use crate::sheets::SERVER_PRIORITY;
 use crate::sheets::TASK_CELLS;
 use crate::sheets::TASK_PRIORITY;
+use run::FOUND_VALUES;
 use run::Turn;
 use table::Mode;
 use table::SERVERS;
@@ -21,9 +22,10 @@ ghost use mathlib.Core.Path.{_≡_};
 ghost use mathlib.Core.Bool.{not, _&&_, _||_};
 ghost use Prim.Native.Nat.{_≤_};
 ghost use lib.Dec.{ltb, eqb};
-ghost use lib.ListN.{replicate};
+ghost use lib.ListN.{take, replicate};
 ghost use Rattle.run.specs.Tick.{turnOf};
-ghost use Rattle.scheduler.specs.Inner.Choose.{ownerColumn, capacityColumn, foundAt, Owned, TopsFound, AbleFound, Chooses};
+ghost use Rattle.scheduler.specs.Inner.Choose.{ownerColumn, capacityColumn, foundBy, Owned, TopsFound};
+ghost use Rattle.scheduler.specs.Inner.Choose.{AbleFound, Chooses};
 ghost use Rattle.scheduler.specs.Inner.Steps.{SomeTable};
 
 // The highest row found so far, by its priority; 0 is nothing found.
@@ -56,41 +58,51 @@ fn capacity_column(m: Mode) -> usize
 }
 
 // Whether a task has a waiting job and is above what was found so far.
-fn is_higher(waiting: u8, priority: u32, height: u32) -> bool
+fn is_higher(waiting: u8, priority: u32, height: u8) -> bool
     ensures { λ r. ⌜ r ≡ (ltb 0 waiting && ltb height priority) ⌝ }
 {
     if waiting == 0 {
         return false;
     }
-    height < priority
+    (height as u32) < priority
 }
 
-// Of each server, the highest task with a waiting job, and its priority.
+// A task's priority as a height: by the table's rules it is at most 255.
+fn height_of(priority: u32) -> u8
+    requires { ⌜ priority ≤ 255 ⌝ }
+    ensures { λ r. ⌜ r ≡ priority ⌝ }
+{
+    priority as u8
+}
+
+// Of each server, the highest task with a waiting job, and its priority. The priorities stand in the
+// first places of what is found, one for each server; the other places stay as they are.
 fn find_tops(
     h: Head,
     tasks: &[u32; TASK_CELLS],
     waiting: &[u8; TASKS],
-    height: &mut [u32; SERVERS],
+    found: &mut [u8; FOUND_VALUES],
     top: &mut [u8; SERVERS],
 )
-    requires { ⌜ Owned h (now tasks) × (now height ≡ replicate 32 0) × (now top ≡ replicate 32 0) ⌝ }
+    requires { ⌜ Owned h (now tasks) × (take 32 (now found) ≡ replicate 32 0) × (now top ≡ replicate 32 0) ⌝ }
     ensures { λ r.
-        ⌜ TopsFound h (now (tasks .entry)) (now (waiting .entry)) (now (height .exit)) (now (top .exit)) ⌝ }
+        ⌜ TopsFound h (now (tasks .entry)) (now (waiting .entry))
+        (now (found .entry)) (now (found .exit)) (now (top .exit)) ⌝ }
 {
     let m = h.mode;
     let column = owner_column(m);
     for k in 0..h.ntasks {
         let o = sheets::task_cell(tasks, column, k) as usize;
         let priority = sheets::task_cell(tasks, TASK_PRIORITY, k);
-        if is_higher(waiting[k], priority, height[o]) {
-            height[o] = priority;
+        if is_higher(waiting[k], priority, found[o]) {
+            found[o] = height_of(priority);
             top[o] = k as u8;
         }
     }
 }
 
 // Whether a server is able; `waits` is 0 if no job of it waits.
-fn is_able(capacity: u32, used: u32, kind: u32, waits: u32) -> bool
+fn is_able(capacity: u32, used: u32, kind: u32, waits: u8) -> bool
     ensures { λ r. ⌜ r ≡ (ltb used capacity && (not (eqb kind 0) || ltb 0 waits)) ⌝ }
 {
     if capacity <= used {
@@ -102,15 +114,15 @@ fn is_able(capacity: u32, used: u32, kind: u32, waits: u32) -> bool
     0 < waits
 }
 
-// The highest able server. A job of server i waits if `height[i]` is not 0.
+// The highest able server. A job of server i waits if `found[i]` is not 0.
 fn find_able(
     h: Head,
     servers: &[u32; SERVER_CELLS],
     used: &[u32; SERVERS],
-    height: &[u32; SERVERS],
+    found: &[u8; FOUND_VALUES],
 ) -> Highest
     requires { ⌜ h .nservers ≤ 32 ⌝ }
-    ensures { λ r. ⌜ AbleFound h (now (servers .entry)) (now (used .entry)) (now (height .entry)) r ⌝ }
+    ensures { λ r. ⌜ AbleFound h (now (servers .entry)) (now (used .entry)) (now (found .entry)) r ⌝ }
 {
     let m = h.mode;
     let column = capacity_column(m);
@@ -121,7 +133,7 @@ fn find_able(
         if high < priority {
             let capacity = sheets::server_cell(servers, column, i);
             let kind = sheets::server_cell(servers, KIND, i);
-            if is_able(capacity, used[i], kind, height[i]) {
+            if is_able(capacity, used[i], kind, found[i]) {
                 high = priority;
                 best = i;
             }
@@ -134,8 +146,8 @@ fn find_able(
 }
 
 // What is said of the server that is charged, its highest task with a waiting job being as found.
-fn turn_of(server: usize, height: u32, task: u8) -> Turn
-    ensures { λ r. ⌜ r ≡ turnOf server (foundAt height task) ⌝ }
+fn turn_of(server: usize, height: u8, task: u8) -> Turn
+    ensures { λ r. ⌜ r ≡ turnOf server (foundBy height task) ⌝ }
 {
     if height == 0 {
         return Turn::Empty { server };
@@ -146,24 +158,26 @@ fn turn_of(server: usize, height: u32, task: u8) -> Turn
     }
 }
 
+// What the tick says. What is found of the servers is noted, where nothing is noted of them yet.
 pub(crate) fn choose_turn(
     h: Head,
     servers: &[u32; SERVER_CELLS],
     tasks: &[u32; TASK_CELLS],
     used: &[u32; SERVERS],
     waiting: &[u8; TASKS],
+    found: &mut [u8; FOUND_VALUES],
 ) -> Turn
-    requires { ⌜ SomeTable h (now servers) (now tasks) ⌝ }
+    requires { ⌜ SomeTable h (now servers) (now tasks) × (take 32 (now found) ≡ replicate 32 0) ⌝ }
     ensures { λ r.
-        ⌜ Chooses h (now (servers .entry)) (now (tasks .entry)) (now (used .entry)) (now (waiting .entry)) r ⌝ }
+        ⌜ Chooses h (now (servers .entry)) (now (tasks .entry)) (now (used .entry)) (now (waiting .entry))
+        (now (found .entry)) (now (found .exit)) r ⌝ }
 {
-    let mut height = [0u32; SERVERS];
     let mut top = [0u8; SERVERS];
-    find_tops(h, tasks, waiting, &mut height, &mut top);
-    let best = find_able(h, servers, used, &height);
+    find_tops(h, tasks, waiting, found, &mut top);
+    let best = find_able(h, servers, used, found);
     if best.height == 0 {
         return Turn::Idle;
     }
     let row = best.row;
-    turn_of(row, height[row], top[row])
+    turn_of(row, found[row], top[row])
 }

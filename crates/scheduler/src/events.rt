@@ -12,6 +12,7 @@ use crate::sheets::SERVER_CELLS;
 use crate::sheets::TASK_CELLS;
 use run::Answer;
 use run::Event;
+use run::FOUND_VALUES;
 use run::MOST;
 use run::QUEUE;
 use run::TickAnswer;
@@ -24,7 +25,8 @@ ghost use mathlib.Core.Path.{_≡_};
 ghost use mathlib.Core.Bool.{not, _&&_, _||_};
 ghost use Prim.Native.Nat.{_≤_, _<_};
 ghost use Rattle.table.specs.Rows.{isLow, isD2};
-ghost use Rattle.scheduler.specs.Inner.Events.{Admits, Releases, SomeRun, TicksOnce, Takes};
+ghost use Rattle.scheduler.specs.Inner.Steps.{noneFound};
+ghost use Rattle.scheduler.specs.Inner.Events.{Admits, Releases, SomeRun, Takes};
 
 fn low_in_d2(m: Mode, l: Level) -> bool
     ensures { λ r. ⌜ r ≡ (isD2 m && isLow l) ⌝ }
@@ -99,7 +101,7 @@ fn mark_may_come(ran: bool, mark: bool) -> bool
     ran
 }
 
-// One tick, steps 1 to 7. Refused: 9, 10.
+// One tick, steps 1 to 7, and what steps 5 and 2 find. Refused: 9, 10.
 pub(crate) fn tick_in(
     h: Head,
     servers: &[u32; SERVER_CELLS],
@@ -108,13 +110,15 @@ pub(crate) fn tick_in(
     elapsed: &mut [u32; SERVERS],
     waiting: &mut [u8; TASKS],
     runs: &mut [u32; TASKS],
+    found: &mut [u8; FOUND_VALUES],
     mark: bool,
 ) -> Step
-    requires { ⌜ SomeRun h (now servers) (now tasks) (now used) (now elapsed) (now waiting) (now runs) ⌝ }
+    requires { ⌜ SomeRun h (now servers) (now tasks) (now used) (now elapsed) (now waiting) (now runs)
+        × (now found ≡ noneFound) ⌝ }
     ensures { λ r.
-        ⌜ TicksOnce h (now (servers .entry)) (now (tasks .entry)) mark
+        ⌜ Takes h (now (servers .entry)) (now (tasks .entry)) (Event.Tick mark)
         (now (used .entry)) (now (elapsed .entry)) (now (waiting .entry)) (now (runs .entry))
-        (now (used .exit)) (now (elapsed .exit)) (now (waiting .exit)) (now (runs .exit)) r ⌝ }
+        (now (used .exit)) (now (elapsed .exit)) (now (waiting .exit)) (now (runs .exit)) (now (found .exit)) r ⌝ }
 {
     let tick = h.ticks;
     if !mark_may_come(h.ran, mark) {
@@ -129,11 +133,11 @@ pub(crate) fn tick_in(
             head: h,
         };
     }
-    let z = settle::settle(h, servers, tasks, used, elapsed, waiting, runs, mark);
+    let z = settle::settle(h, servers, tasks, used, elapsed, waiting, runs, found, mark);
     let mode = z.mode;
     let left = z.left;
     let settled = Head { mode, ..h };
-    let turn = choose::choose_turn(settled, servers, tasks, used, waiting);
+    let turn = choose::choose_turn(settled, servers, tasks, used, waiting, found);
     let head = advance::advance(settled, turn, used, elapsed, runs);
     let answer = TickAnswer {
         tick,
@@ -148,7 +152,7 @@ pub(crate) fn tick_in(
     }
 }
 
-// An event, taken or refused.
+// An event, taken or refused, and what is found at it.
 pub(crate) fn event_in(
     h: Head,
     servers: &[u32; SERVER_CELLS],
@@ -157,16 +161,18 @@ pub(crate) fn event_in(
     elapsed: &mut [u32; SERVERS],
     waiting: &mut [u8; TASKS],
     runs: &mut [u32; TASKS],
+    found: &mut [u8; FOUND_VALUES],
     e: Event,
 ) -> Step
-    requires { ⌜ SomeRun h (now servers) (now tasks) (now used) (now elapsed) (now waiting) (now runs) ⌝ }
+    requires { ⌜ SomeRun h (now servers) (now tasks) (now used) (now elapsed) (now waiting) (now runs)
+        × (now found ≡ noneFound) ⌝ }
     ensures { λ r.
         ⌜ Takes h (now (servers .entry)) (now (tasks .entry)) e
         (now (used .entry)) (now (elapsed .entry)) (now (waiting .entry)) (now (runs .entry))
-        (now (used .exit)) (now (elapsed .exit)) (now (waiting .exit)) (now (runs .exit)) r ⌝ }
+        (now (used .exit)) (now (elapsed .exit)) (now (waiting .exit)) (now (runs .exit)) (now (found .exit)) r ⌝ }
 {
     match e {
         Event::Release(task) => release_in(h, tasks, waiting, task),
-        Event::Tick(mark) => tick_in(h, servers, tasks, used, elapsed, waiting, runs, mark),
+        Event::Tick(mark) => tick_in(h, servers, tasks, used, elapsed, waiting, runs, found, mark),
     }
 }

@@ -15,6 +15,7 @@ use run::Answer;
 use run::Answered;
 use run::Begun;
 use run::Event;
+use run::FOUND_VALUES;
 use run::Last;
 use run::Run;
 use run::Starting;
@@ -86,6 +87,7 @@ fn answer_event(r: Run, e: Event) -> Answered
     let ks = t.tasks;
     let servers = sheets::server_sheet(rows);
     let tasks = sheets::task_sheet(ks);
+    let mut found = [0u8; FOUND_VALUES];
     let d = events::event_in(
         h,
         &servers,
@@ -94,6 +96,7 @@ fn answer_event(r: Run, e: Event) -> Answered
         &mut elapsed,
         &mut waiting,
         &mut runs,
+        &mut found,
         e,
     );
     let answer = d.answer;

@@ -9,6 +9,7 @@ use crate::sheets::LIMIT_N;
 use crate::sheets::PERIOD;
 use crate::sheets::SERVER_CELLS;
 use crate::sheets::TASK_CELLS;
+use run::FOUND_VALUES;
 use run::Judged;
 use run::Left;
 use table::ByMode;
@@ -23,7 +24,9 @@ ghost use lib.ListN.{getD, set};
 ghost use Rattle.laws.specs.Choice.{if_then_else_};
 ghost use Rattle.laws.specs.Rows.{anew, anyBelow, sumBelow};
 ghost use Rattle.run.specs.Tick.{enters};
-ghost use Rattle.scheduler.specs.Inner.Steps.{Judges, JudgesInD2, RanJob, Marks, keptOf, goneOf, Discards, waitsAt, isN, SettlesMode, Refills, Few, Settles};
+ghost use Rattle.scheduler.specs.Inner.Steps.{Judges, JudgesInD2, RanJob, Marks, noneFound, keptOf};
+ghost use Rattle.scheduler.specs.Inner.Steps.{goneOf, notedOf, Discards, waitsAt, isN, SettlesMode};
+ghost use Rattle.scheduler.specs.Inner.Steps.{Refills, Few, Settles};
 
 // The mode after step 1, and the job that left.
 pub struct Risen {
@@ -175,23 +178,27 @@ fn enters_d2(before: Mode, after: Mode) -> bool
     false
 }
 
-// The jobs of every LO task are discarded, and counted. n tasks are in use.
+// The jobs of every LO task are discarded, and counted; of each task is noted what was discarded of
+// it. n tasks are in use.
 fn drop_low(
     n: usize,
     tasks: &[u32; TASK_CELLS],
     waiting: &mut [u8; TASKS],
     runs: &mut [u32; TASKS],
+    found: &mut [u8; FOUND_VALUES],
 ) -> u32
-    requires { ⌜ n ≤ 64 ⌝ }
+    requires { ⌜ (n ≤ 64) × (now found ≡ noneFound) ⌝ }
     ensures { λ r.
         ⌜ (now (waiting .exit) ≡ anew n (keptOf (now (tasks .entry))) (now (waiting .entry)))
         × (now (runs .exit) ≡ anew n (keptOf (now (tasks .entry))) (now (runs .entry)))
-        × (r ≡ sumBelow n (λ k. goneOf (now (tasks .entry)) k (getD (now (waiting .entry)) k 0))) ⌝ }
+        × (r ≡ sumBelow n (λ k. goneOf (now (tasks .entry)) k (getD (now (waiting .entry)) k 0)))
+        × (now (found .exit) ≡ notedOf n (λ k. goneOf (now (tasks .entry)) k (getD (now (waiting .entry)) k 0))) ⌝ }
 {
     let mut count: u32 = 0;
     for k in 0..n {
         if sheets::task_cell(tasks, LEVEL, k) == 0 {
             count += run::job_count(waiting[k]);
+            found[SERVERS + k] = waiting[k];
             waiting[k] = 0;
             runs[k] = 0;
         }
@@ -206,17 +213,18 @@ fn discard(
     tasks: &[u32; TASK_CELLS],
     waiting: &mut [u8; TASKS],
     runs: &mut [u32; TASKS],
+    found: &mut [u8; FOUND_VALUES],
 ) -> u32
-    requires { ⌜ h .ntasks ≤ 64 ⌝ }
+    requires { ⌜ (h .ntasks ≤ 64) × (now found ≡ noneFound) ⌝ }
     ensures { λ r.
         ⌜ Discards h before (now (tasks .entry)) (now (waiting .entry)) (now (runs .entry))
-        (now (waiting .exit)) (now (runs .exit)) r ⌝ }
+        (now (waiting .exit)) (now (runs .exit)) (now (found .exit)) r ⌝ }
 {
     let after = h.mode;
     if !enters_d2(before, after) {
         return 0;
     }
-    drop_low(h.ntasks, tasks, waiting, runs)
+    drop_low(h.ntasks, tasks, waiting, runs, found)
 }
 
 // Whether some job waits.
@@ -295,20 +303,21 @@ pub(crate) fn settle(
     elapsed: &mut [u32; SERVERS],
     waiting: &mut [u8; TASKS],
     runs: &mut [u32; TASKS],
+    found: &mut [u8; FOUND_VALUES],
     mark: bool,
 ) -> Settling
-    requires { ⌜ Few h × RanJob h (now waiting) ⌝ }
+    requires { ⌜ Few h × RanJob h (now waiting) × (now found ≡ noneFound) ⌝ }
     ensures { λ r.
         ⌜ Settles h (now (servers .entry)) (now (tasks .entry)) mark
         (now (used .entry)) (now (elapsed .entry)) (now (waiting .entry)) (now (runs .entry))
-        (now (used .exit)) (now (elapsed .exit)) (now (waiting .exit)) (now (runs .exit)) r ⌝ }
+        (now (used .exit)) (now (elapsed .exit)) (now (waiting .exit)) (now (runs .exit)) (now (found .exit)) r ⌝ }
 {
     let before = h.mode;
     let m = mark_job(h, tasks, waiting, runs, mark);
     let risen = m.mode;
     let left = m.left;
     let after = Head { mode: risen, ..h };
-    let discarded = discard(after, before, tasks, waiting, runs);
+    let discarded = discard(after, before, tasks, waiting, runs, found);
     let mode = settled_mode(after, waiting);
     refill(h.nservers, servers, used, elapsed);
     Settling {

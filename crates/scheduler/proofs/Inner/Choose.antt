@@ -1,18 +1,20 @@
 -- The highest marked row, kept as a priority and a row, 0 being nothing found: how a walk over
 -- tasks finds the highest of each server, and a walk over servers the highest that is able.
 -- Priorities of a table are at least 1. Assumes nothing.
-use mathlib.Core.Path.{_≡_, refl, sym, ap, subst, _∙_}
+use mathlib.Core.Path.{_≡_, refl, sym, ap, ap₂, subst, _∙_}
 use mathlib.Core.Bool.{Bool, true, false, not, _&&_, _||_}
-use mathlib.Core.List.{List}
+use mathlib.Core.List.{List, _++_}
 use mathlib.Core.Logic.{_⊎_, inl, inr}
 use Prim.Native.Nat.{ℕ, zero, suc, _+_, _≤_, _<_}
 use native.Mathlib.Omega.{arith}
+use native.Mathlib.Nat.{min-le-right}
 use lib.Dec.{ltb, eqb}
-use lib.ListN.{length, getD, set, replicate, getD-replicate}
-use lib.Seq.{getD-set-same, getD-set-other}
+use lib.ListN.{length, getD, set, take, drop, replicate, getD-replicate, length-take, take-append-drop}
+use lib.Seq.{getD-set-same, getD-set-other, getD-take, length-take-le, ext-getD}
 use borrow.Author.Tests.{lt-ltb, ltb-true, ltb-false, eq-eqb, ne-eqb}
 use Rattle.laws.specs.declared.Found.the-variants.{At}
-use Rattle.laws.specs.Rows.{anyBelow, highest}
+use Rattle.laws.specs.Rows.{anyBelow, highest, anew}
+use Rattle.laws.proofs.Anew.{length-anew, anew-at}
 use Rattle.laws.proofs.Choice.{and-left, and-right, and-true}
 use Rattle.laws.proofs.Rows.{any-at, none-build}
 use Rattle.laws.proofs.Highest.{Picked, picked-skip, picked-new, picked-take, picked-keep, picked-is, highest-at, highest-none}
@@ -23,19 +25,37 @@ use Rattle.table.specs.Rows.{taskAt, priorityAt, taskPriorityAt}
 use Rattle.table.proofs.Rules.{TableRules}
 use Rattle.run.specs.declared.State.{State}
 use Rattle.run.specs.declared.Turn.the-variants.{Idle}
+use Rattle.run.specs.Found.{topPriority, priorityFound}
 use Rattle.run.specs.State.{usedAt, waitingAt, owner, waitsFor, waits}
 use Rattle.run.specs.Tick.{able, highestAble, highestTask, turnOf, choose}
 use Rattle.run.proofs.Steps.{same-or-not}
 use Rattle.scheduler.specs.Inner.Columns.{ServersOn}
-use Rattle.scheduler.specs.Inner.Choose.{capacityColumn, foundAt}
+use Rattle.scheduler.specs.Inner.Choose.{capacityColumn, foundBy, withTops}
 use Rattle.scheduler.proofs.Inner.Columns.{timed-on, capacity-on}
 
-pub found-there : (height row : ℕ) → 0 < height → foundAt height row ≡ At row
+pub found-there : (height row : ℕ) → 0 < height → foundBy height row ≡ At row
 found-there zero row h = absurd (omega arith)
 found-there (suc height) row h = refl
 
+-- what is found has the servers' places; and it is known by the numbers in them
+pub places-there : (f : List ℕ) → take 32 f ≡ replicate 32 0 → 32 ≤ length f
+places-there f e = omega (arith, length-take 32 f, ap length e, min-le-right 32 (length f))
+
+first-places : (f f₀ : List ℕ) (g : ℕ → ℕ) → 32 ≤ length f → drop 32 f ≡ drop 32 f₀ →
+    ((i : ℕ) → i < 32 → getD f i 0 ≡ g i) → f ≡ withTops g f₀
+first-places f f₀ g n e h =
+    let ys = anew 32 (λ i x. g i) (replicate 32 0) in
+    let k : length (take 32 f) ≡ 32 = length-take-le 32 f n in
+    sym (take-append-drop 32 f)
+    ∙ ap₂ (λ (xs zs : List ℕ). xs ++ zs)
+    (ext-getD 0 (take 32 f) ys (k ∙ sym (length-anew 32 (λ i x. g i) (replicate 32 0)))
+    (λ i l.
+    let m : i < 32 = omega (arith, k) in
+    getD-take 32 f i 0 m ∙ h i m ∙ sym (anew-at 32 (λ i x. g i) (replicate 32 0) i 0 m m)))
+    e
+
 pub record Top (n : ℕ) (marked : ℕ → Bool) (priority : ℕ → ℕ) (height row : ℕ) : Type 0 where
-  pub picked : Picked n marked priority (foundAt height row)
+  pub picked : Picked n marked priority (foundBy height row)
   pub level : 0 < height → height ≡ priority row
 
 module _ (marked : ℕ → Bool) (priority : ℕ → ℕ) where
@@ -45,7 +65,7 @@ module _ (marked : ℕ → Bool) (priority : ℕ → ℕ) where
   pub top-skip : (n height row : ℕ) → Top n marked priority height row → marked n ≡ false →
       Top (n + 1) marked priority height row
   top-skip n height row p e =
-      record { picked = picked-skip marked priority n (foundAt height row) (p .picked) e; level = p .level }
+      record { picked = picked-skip marked priority n (foundBy height row) (p .picked) e; level = p .level }
 
   pub top-take : (n height row : ℕ) → Top n marked priority height row → marked n ≡ true → height < priority n →
       Top (n + 1) marked priority (priority n) n
@@ -53,7 +73,7 @@ module _ (marked : ℕ → Bool) (priority : ℕ → ℕ) where
       record
       { picked = rw (found-there (priority n) n (omega arith)) (go height (p .picked) (p .level) l); level = λ h. refl }
     where
-      go : (height : ℕ) → Picked n marked priority (foundAt height row) → (0 < height → height ≡ priority row) →
+      go : (height : ℕ) → Picked n marked priority (foundBy height row) → (0 < height → height ≡ priority row) →
           height < priority n →
           Picked (n + 1) marked priority (At n)
       go zero q v h = picked-new marked priority n q e
@@ -63,17 +83,17 @@ module _ (marked : ℕ → Bool) (priority : ℕ → ℕ) where
       Top (n + 1) marked priority height row
   top-keep n height row p l g = record { picked = go height (p .picked) (p .level) l; level = p .level }
     where
-      go : (height : ℕ) → Picked n marked priority (foundAt height row) → (0 < height → height ≡ priority row) →
+      go : (height : ℕ) → Picked n marked priority (foundBy height row) → (0 < height → height ≡ priority row) →
           priority n ≤ height →
-          Picked (n + 1) marked priority (foundAt height row)
+          Picked (n + 1) marked priority (foundBy height row)
       go zero q v h = absurd (omega arith)
       go (suc height) q v h = picked-keep marked priority n row q (omega (arith, v (omega arith)))
 
-  pub top-is : (n height row : ℕ) → Top n marked priority height row → foundAt height row ≡ highest n marked priority
-  top-is n height row p = picked-is marked priority n (foundAt height row) (p .picked)
+  pub top-is : (n height row : ℕ) → Top n marked priority height row → foundBy height row ≡ highest n marked priority
+  top-is n height row p = picked-is marked priority n (foundBy height row) (p .picked)
 
   -- something is found exactly if some row is marked
-  found-some : (n height row : ℕ) → foundAt height row ≡ highest n marked priority → ltb 0 height ≡ anyBelow n marked
+  found-some : (n height row : ℕ) → foundBy height row ≡ highest n marked priority → ltb 0 height ≡ anyBelow n marked
   found-some n zero row e = sym (none-build marked n (highest-none marked priority n (sym e)))
   found-some n (suc height) row e =
       let s = highest-at marked priority n row (sym e) in
@@ -84,9 +104,11 @@ module _ (t : Table) (s : State) where
   abbrev pub Tops : ℕ → List ℕ → List ℕ → Type 0
   Tops k height top = (i : ℕ) → i < 32 → Top k (waitsFor t s i) (taskPriorityAt t) (getD height i 0) (getD top i 0)
 
-  pub tops-none : Tops 0 (replicate 32 0) (replicate 32 0)
-  tops-none i h =
-      rw (getD-replicate {A = ℕ} 32 i 0 0 h) (top-none (waitsFor t s i) (taskPriorityAt t) 0)
+  pub tops-none : (f : List ℕ) → take 32 f ≡ replicate 32 0 → Tops 0 f (replicate 32 0)
+  tops-none f e i h =
+      let z : getD f i 0 ≡ 0 =
+      sym (getD-take 32 f i 0 h) ∙ ap (λ (xs : List ℕ). getD xs i 0) e ∙ getD-replicate {A = ℕ} 32 i 0 0 h in
+      rw (z, getD-replicate {A = ℕ} 32 i 0 0 h) (top-none (waitsFor t s i) (taskPriorityAt t) 0)
 
   others : (i k o : ℕ) → o ≡ owner (s .mode) (taskAt t k) → (i ≡ o → ⊥) → waitsFor t s i k ≡ false
   others i k o e d = go (ltb 0 (waitingAt s k))
@@ -105,7 +127,7 @@ module _ (t : Table) (s : State) where
 
   -- Task k, of priority p, belongs to server o: it is above what was found of o, or not.
   module _ (k o p : ℕ) (height top : List ℕ) (e : o ≡ owner (s .mode) (taskAt t k)) (f : p ≡ taskPriorityAt t k) where
-    pub tops-take : length height ≡ 32 → length top ≡ 32 → o < 32 →
+    pub tops-take : 32 ≤ length height → length top ≡ 32 → o < 32 →
         (ltb 0 (waitingAt s k) && ltb (getD height o 0) p) ≡ true → Tops k height top →
         Tops (k + 1) (set height o p) (set top o k)
     tops-take lh lt l h q i b = rw f (go (same-or-not i o))
@@ -144,12 +166,29 @@ module _ (t : Table) (s : State) where
             (rw (x, ← f) (ltb-false (getD height o 0) p (rw y at h))) g
 
   pub tops-found : (height top : List ℕ) → Tops (t .ntasks) height top → (i : ℕ) → i < 32 →
-      foundAt (getD height i 0) (getD top i 0) ≡ highestTask t s i
+      foundBy (getD height i 0) (getD top i 0) ≡ highestTask t s i
   unfolding highestTask
   tops-found height top p i h =
       top-is (waitsFor t s i) (taskPriorityAt t) (t .ntasks) (getD height i 0) (getD top i 0) (p i h)
 
-  pub waits-found : (i height row : ℕ) → foundAt height row ≡ highestTask t s i → ltb 0 height ≡ waits t s i
+  -- the height of a server is the priority of its highest task with a waiting job
+  height-found : (i height row : ℕ) → Top (t .ntasks) (waitsFor t s i) (taskPriorityAt t) height row →
+      height ≡ topPriority t s i
+  unfolding topPriority highestTask
+  height-found i height row p =
+      go height (p .level) ∙ ap (priorityFound t) (top-is (waitsFor t s i) (taskPriorityAt t) (t .ntasks) height row p)
+    where
+      go : (height : ℕ) → (0 < height → height ≡ taskPriorityAt t row) →
+          height ≡ priorityFound t (foundBy height row)
+      go zero v = refl
+      go (suc height) v = v (omega arith)
+
+  pub tops-noted : (f f₀ top : List ℕ) → 32 ≤ length f → drop 32 f ≡ drop 32 f₀ → Tops (t .ntasks) f top →
+      f ≡ withTops (topPriority t s) f₀
+  tops-noted f f₀ top n e p =
+      first-places f f₀ (topPriority t s) n e (λ i h. height-found i (getD f i 0) (getD top i 0) (p i h))
+
+  pub waits-found : (i height row : ℕ) → foundBy height row ≡ highestTask t s i → ltb 0 height ≡ waits t s i
   unfolding highestTask waits
   waits-found i height row e = found-some (waitsFor t s i) (taskPriorityAt t) (t .ntasks) height row e
 
@@ -162,20 +201,20 @@ module _ (t : Table) (s : State) where
   able-is xs i c k w p h e f g = rw (e, f, capacity-on t xs p i h (s .mode), timed-on t xs p i h, g)
 
   pub able-found : (height row : ℕ) → Top (t .nservers) (able t s) (priorityAt t) height row →
-      foundAt height row ≡ highestAble t s
+      foundBy height row ≡ highestAble t s
   unfolding highestAble
   able-found height row p = top-is (able t s) (priorityAt t) (t .nservers) height row p
 
   -- what is said at the end
-  pub says-idle : (height row : ℕ) → foundAt height row ≡ highestAble t s → height ≡ 0 → Idle ≡ choose t s
+  pub says-idle : (height row : ℕ) → foundBy height row ≡ highestAble t s → height ≡ 0 → Idle ≡ choose t s
   unfolding choose
   says-idle height row p e = rw (← p, e)
 
-  module _ (height row : ℕ) (p : foundAt height row ≡ highestAble t s) (d : height ≡ 0 → ⊥) where
+  module _ (height row : ℕ) (p : foundBy height row ≡ highestAble t s) (d : height ≡ 0 → ⊥) where
     found-row : highestAble t s ≡ At row
     found-row = sym p ∙ found-there height row (omega arith)
 
-    pub says-turn : (h x : ℕ) → foundAt h x ≡ highestTask t s row → turnOf row (foundAt h x) ≡ choose t s
+    pub says-turn : (h x : ℕ) → foundBy h x ≡ highestTask t s row → turnOf row (foundBy h x) ≡ choose t s
     unfolding choose
     says-turn h x q = rw found-row (ap (turnOf row) q)
 

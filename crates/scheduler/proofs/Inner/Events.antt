@@ -11,18 +11,20 @@ use borrow.Author.Tests.{lt-ltb, le-ltb, ltb-true}
 use Rattle.laws.proofs.Choice.{if-ind}
 use Rattle.table.specs.declared.Mode.{Mode}
 use Rattle.table.specs.declared.Table.{Table}
+use Rattle.table.specs.declared.Refusal.{Refusal}
 use Rattle.table.specs.declared.Refusal.the-variants.{NoTask, LowInD2, QueueFull, NoJobRan, CountSpent, Unsound}
 use Rattle.table.specs.Rows.{noServer, noTask, periodAt, taskAt, isLow, isD2}
 use Rattle.table.specs.Rules.{tableKeeps}
 use Rattle.table.specs.Inner.{Sized}
 use Rattle.table.proofs.Rules.{TableRules, table-rules}
-use Rattle.run.specs.declared.Answer.the-variants.{Released, Ticked}
+use Rattle.run.specs.declared.Answer.the-variants.{Released, Ticked, No}
 use Rattle.run.specs.declared.Event.{Event}
 use Rattle.run.specs.declared.Event.the-variants.{Release, Tick}
 use Rattle.run.specs.declared.Left.{Left}
 use Rattle.run.specs.declared.Run.{Run}
 use Rattle.run.specs.declared.Starting.the-variants.{Started, Refused}
 use Rattle.run.specs.declared.State.{State}
+use Rattle.run.specs.declared.TickAnswer.{TickAnswer}
 use Rattle.run.specs.declared.Turn.{Turn}
 use Rattle.run.specs.declared.Turn.the-variants.{Run as Ran, Empty, Idle}
 use Rattle.laws.specs.Rows.{sumBelow}
@@ -30,6 +32,7 @@ use Rattle.run.specs.Answers.{charged}
 use Rattle.run.specs.State.{usedAt, elapsedAt, waitingAt}
 use Rattle.run.specs.Sound.{sound}
 use Rattle.run.specs.Events.{eventOf}
+use Rattle.run.specs.Found.{takenBy, topPriority, foundValues}
 use Rattle.run.specs.Release.{refused, freshRun, startOf, withJob, releaseOf}
 use Rattle.run.specs.Tick.{settle, choose, advance, tickTaken, ranJob, tickOf}
 use Rattle.run.proofs.Shape.{Shaped}
@@ -40,8 +43,10 @@ use Rattle.scheduler.specs.declared.parts.Head.{Head}
 use Rattle.scheduler.specs.declared.settle.Settling.{Settling}
 use Rattle.scheduler.specs.Inner.Parts.{stateOf, runOf, headOf, atMode}
 use Rattle.scheduler.specs.Inner.Columns.{serverCells, taskCells, OnSheet}
-use Rattle.scheduler.specs.Inner.Steps.{Shows, Few, RanJob, SettledSo, ServerIn, TaskIn, ChargeFits, RunFits, CountsFit}
-use Rattle.scheduler.specs.Inner.Events.{SoundRun}
+use Rattle.scheduler.specs.Inner.Steps.{Shows, Few, RanJob, noneFound, notedOf, SettledSo}
+use Rattle.scheduler.specs.Inner.Steps.{ServerIn, TaskIn, ChargeFits, RunFits, CountsFit}
+use Rattle.scheduler.specs.Inner.Choose.{withTops}
+use Rattle.scheduler.specs.Inner.Events.{SoundRun, FoundAt}
 use Rattle.scheduler.proofs.Inner.Parts.{parts-are}
 
 -- a start
@@ -126,6 +131,25 @@ module _ (r : Run) (mark : Bool) (e : sound r ≡ true) where
     unfolding tickOf tickTaken
     tick-taken h z y l n turn q₁ q₂ q₃ c a =
         rw (e, m, lt-ltb (r .state .ticks .0) 4000000000 h, q₁, q₂, q₃, ← c, a)
+
+-- What is found at it: that of the tick, if it is taken, else nothing.
+module _ (r : Run) (mark : Bool) (f′ : List ℕ) where
+  pub refused-finds : (why : Refusal) → No why ≡ tickOf r mark .answer → f′ ≡ noneFound →
+      FoundAt (r .table) (takenBy r (Tick mark) (tickOf r mark .answer)) f′
+  refused-finds why e z = rw (← e) z
+
+  pub taken-finds : (a : TickAnswer) → Ticked a ≡ tickOf r mark .answer → (z : State) (f : List ℕ) →
+      settle (r .table) (r .state) mark .state ≡ z →
+      f ≡ notedOf (r .table .ntasks) (settle (r .table) (r .state) mark .discarded) →
+      f′ ≡ withTops (topPriority (r .table) z) f →
+      FoundAt (r .table) (takenBy r (Tick mark) (tickOf r mark .answer)) f′
+  unfolding foundValues
+  taken-finds a e z f q₁ q₂ q₃ =
+      let t = r .table in
+      rw (← e)
+      (q₃
+      ∙ ap (withTops (topPriority t z)) q₂
+      ∙ ap (λ y. withTops (topPriority t y) (notedOf (t .ntasks) (settle t (r .state) mark .discarded))) (sym q₁))
 
 pub event-unsound : (r : Run) (e : Event) → sound r ≡ false → refused r Unsound ≡ eventOf r e
 event-unsound r (Release k) q = release-unsound r k q
@@ -237,10 +261,10 @@ module _ (t : Table) (s : State) (mark : Bool) (r : TableRules t) (h : Shaped s)
       (λ e. omega (arith, f .servers i l .elapsed, r .server i l .period-high)))
 
 pub room : (t : Table) (h : Head) (ss ks u e w c : List ℕ) (p : SoundRun t h ss ks u e w c) (mark : Bool)
-    (u′ e′ w′ c′ : List ℕ) (d : Settling) (turn : Turn) → SettledSo t h mark u e w c u′ e′ w′ c′ d →
+    (u′ e′ w′ c′ f′ : List ℕ) (d : Settling) (turn : Turn) → SettledSo t h mark u e w c u′ e′ w′ c′ f′ d →
     turn ≡ choose t (stateOf (atMode h (d .mode)) u′ e′ w′ c′) → h .ticks .0 < 4000000000 →
     CountsFit (atMode h (d .mode)) turn u′ e′ c′
-room t h ss ks u e w c p mark u′ e′ w′ c′ d turn q g l =
+room t h ss ks u e w c p mark u′ e′ w′ c′ f′ d turn q g l =
     let s = stateOf h u e w c in
     let z = stateOf (atMode h (d .mode)) u′ e′ w′ c′ in
     let r = rules t h ss ks u e w c p in

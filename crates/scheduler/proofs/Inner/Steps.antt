@@ -1,13 +1,13 @@
 -- The steps of a tick on the parts of a run, case by case as the code makes them. Assumes nothing.
 use mathlib.Core.Path.{_≡_, refl, sym, ap, _∙_}
 use mathlib.Core.Bool.{Bool, true, false}
-use mathlib.Core.List.{List}
+use mathlib.Core.List.{List, [], _∷_, _++_}
 use mathlib.Core.Logic.{_⊎_, inl, inr}
-use Prim.Native.Nat.{ℕ, suc, _+_, _-_, _≤_, _<_}
+use Prim.Native.Nat.{ℕ, zero, suc, _+_, _-_, _≤_, _<_}
 use native.Mathlib.Omega.{arith}
-use native.Mathlib.Nat.{add-zero}
+use native.Mathlib.Nat.{add-zero, zero-add, suc-add}
 use lib.Dec.{eqb}
-use lib.ListN.{length, getD, set, length-set}
+use lib.ListN.{length, getD, set, length-set, replicate, getD-replicate}
 use lib.Seq.{ext-getD, getD-set-same, getD-set-other}
 use borrow.Author.Tests.{eq-eqb, ne-eqb}
 use Rattle.laws.specs.Choice.{if_then_else_}
@@ -35,7 +35,8 @@ use Rattle.run.proofs.Tick.{one-same}
 use Rattle.run.proofs.Steps.{same-or-not, one-past}
 use Rattle.scheduler.specs.declared.parts.Head.{Head}
 use Rattle.scheduler.specs.Inner.Parts.{lastIn, stateOf, atMode}
-use Rattle.scheduler.specs.Inner.Steps.{keptOf, goneOf, Discards, waitsAt, isN, SettlesMode, Refills, Charges, afterRun, later, RunsFront, Ages}
+use Rattle.scheduler.specs.Inner.Steps.{noneFound, keptOf, goneOf, notedOf, Discards, waitsAt, isN}
+use Rattle.scheduler.specs.Inner.Steps.{SettlesMode, Refills, Charges, afterRun, later, RunsFront, Ages}
 use Rattle.scheduler.proofs.Inner.Columns.{low-on, period-on}
 
 -- Step 1: a job is judged at its mode's limit, then at the next.
@@ -136,10 +137,53 @@ pub drop-none : (ks xs : List ℕ) (k n : ℕ) → n ≡ sumBelow k (λ j. goneO
     eqb (getD ks (192 + k) 0) 0 ≡ false → n ≡ sumBelow (k + 1) (λ j. goneOf ks j (getD xs j 0))
 drop-none ks xs k n h l = rw (h, sum-next (λ j. goneOf ks j (getD xs j 0)) k) (rw (l, add-zero))
 
+-- What is discarded of a task is noted at its place, behind the servers' places.
+set-behind : (xs ys : List ℕ) (k v : ℕ) → set (xs ++ ys) (length xs + k) v ≡ xs ++ set ys k v
+set-behind [] ys k v = ap (λ n. set ys n v) (zero-add k)
+set-behind (x ∷ xs) ys k v =
+    ap (λ n. set (x ∷ xs ++ ys) n v) (suc-add (length xs) k)
+    ∙ ap (λ (zs : List ℕ). x ∷ zs) (set-behind xs ys k v)
+
+pub noted-none : (gone : ℕ → ℕ) → noneFound ≡ notedOf 0 gone
+unfolding anew
+noted-none gone = refl
+
+zeros-stay : (n m : ℕ) (gone : ℕ → ℕ) → ((k : ℕ) → gone k ≡ 0) → replicate m 0 ≡ anew n (λ k x. gone k) (replicate m 0)
+unfolding anew
+zeros-stay zero m gone h = refl
+zeros-stay (suc n) zero gone h = refl
+zeros-stay (suc n) (suc m) gone h =
+    rw (h 0) (ap (λ (xs : List ℕ). 0 ∷ xs) (zeros-stay n m (λ k. gone (suc k)) (λ k. h (suc k))))
+
+noted-zeros : (n : ℕ) (gone : ℕ → ℕ) → ((k : ℕ) → gone k ≡ 0) → noneFound ≡ notedOf n gone
+noted-zeros n gone h = ap (λ (xs : List ℕ). replicate 32 0 ++ xs) (zeros-stay n 64 gone h)
+
+noted-cong : (n : ℕ) (gone gone′ : ℕ → ℕ) → ((k : ℕ) → k < n → gone k ≡ gone′ k) → notedOf n gone ≡ notedOf n gone′
+noted-cong n gone gone′ h =
+    ap (λ (xs : List ℕ). replicate 32 0 ++ xs)
+    (anew-cong n (λ k x. gone k) (λ k x. gone′ k) (replicate 64 0) (λ k x l. h k l))
+
+module _ (gone : ℕ → ℕ) (f : List ℕ) (k : ℕ) (e : f ≡ notedOf k gone) where
+  pub note-put : (v : ℕ) → gone k ≡ v → set f (32 + k) v ≡ notedOf (k + 1) gone
+  note-put v h =
+      let ys = anew k (λ j x. gone j) (replicate 64 0) in
+      ap (λ (xs : List ℕ). set xs (32 + k) v) e
+      ∙ set-behind (replicate 32 0) ys k v
+      ∙ ap (λ (xs : List ℕ). replicate 32 0 ++ xs) (anew-put (λ j x. gone j) (replicate 64 0) ys k 0 refl v h)
+
+  pub note-stay : k < 64 → gone k ≡ 0 → f ≡ notedOf (k + 1) gone
+  note-stay l h =
+      let ys = anew k (λ j x. gone j) (replicate 64 0) in
+      let z : getD ys k 0 ≡ 0 =
+      anew-row (λ j x. gone j) (replicate 64 0) ys k 0 refl ∙ getD-replicate {A = ℕ} 64 k 0 0 l in
+      e
+      ∙ ap (λ (xs : List ℕ). replicate 32 0 ++ xs)
+      (anew-stay (λ j x. gone j) (replicate 64 0) ys k 0 refl (h ∙ sym z))
+
 module _ (h : Head) (before : Mode) (ks w c : List ℕ) where
-  pub discards-not : enters before (h .mode) ≡ false → Discards h before ks w c w c 0
+  pub discards-not : (f : List ℕ) → f ≡ noneFound → enters before (h .mode) ≡ false → Discards h before ks w c w c f 0
   unfolding step2 discards drops
-  discards-not q t u e p n =
+  discards-not f z q t u e p n =
       let s = stateOf h u e w c in
       let same : (k x : ℕ) → (if drops t before s k then 0 else x) ≡ x = λ k x. rw q in (
         rw (
@@ -147,16 +191,20 @@ module _ (h : Head) (before : Mode) (ks w c : List ℕ) where
           anew-same (t .ntasks) (λ k x. if drops t before s k then 0 else x) c same,
         ),
         sum-zero (discards t before s) (t .ntasks) (λ k l. rw q),
+        z ∙ noted-zeros (t .ntasks) (discards t before s) (λ k. rw q),
       )
 
-  pub discards-entered : (w′ c′ : List ℕ) (n : ℕ) → enters before (h .mode) ≡ true → w′ ≡ anew (h .ntasks) (keptOf ks) w →
-      c′ ≡ anew (h .ntasks) (keptOf ks) c → n ≡ sumBelow (h .ntasks) (λ k. goneOf ks k (getD w k 0)) →
-      Discards h before ks w c w′ c′ n
+  pub discards-entered : (w′ c′ f′ : List ℕ) (n : ℕ) → enters before (h .mode) ≡ true →
+      w′ ≡ anew (h .ntasks) (keptOf ks) w → c′ ≡ anew (h .ntasks) (keptOf ks) c →
+      n ≡ sumBelow (h .ntasks) (λ k. goneOf ks k (getD w k 0)) →
+      f′ ≡ notedOf (h .ntasks) (λ k. goneOf ks k (getD w k 0)) → Discards h before ks w c w′ c′ f′ n
   unfolding step2 discards drops
-  discards-entered w′ c′ n q pw pc pn t u e p m =
+  discards-entered w′ c′ f′ n q pw pc pn pf t u e p m =
       let s = stateOf h u e w c in
       let same : (k x : ℕ) → k < t .ntasks → (if drops t before s k then 0 else x) ≡ keptOf ks k x =
-      λ k x l. rw (q, low-on t ks p k l) in (
+      λ k x l. rw (q, low-on t ks p k l) in
+      let gone : (k : ℕ) → k < t .ntasks → discards t before s k ≡ goneOf ks k (getD w k 0) =
+      λ k l. rw (q, low-on t ks p k l) in (
         rw (
           pw,
           pc,
@@ -164,8 +212,8 @@ module _ (h : Head) (before : Mode) (ks w c : List ℕ) where
           anew-cong (t .ntasks) (λ k x. if drops t before s k then 0 else x) (keptOf ks) w same,
           anew-cong (t .ntasks) (λ k x. if drops t before s k then 0 else x) (keptOf ks) c same,
         ),
-        rw (pn, m)
-            (sum-cong (discards t before s) (λ k. goneOf ks k (getD w k 0)) (t .ntasks) (λ k l. rw (q, low-on t ks p k l))),
+        rw (pn, m) (sum-cong (discards t before s) (λ k. goneOf ks k (getD w k 0)) (t .ntasks) gone),
+        rw (pf, m) (sym (noted-cong (t .ntasks) (discards t before s) (λ k. goneOf ks k (getD w k 0)) gone)),
       )
 
 -- Step 3.
@@ -209,10 +257,12 @@ refills-is n ss u e u′ e′ pu pe t h w c p m =
 -- Steps 1 to 4 put together.
 pub settled-is : (t : Table) (s : State) (mark : Bool) (s₁ s₂ s₃ z : State) (l : Left) (n : ℕ) →
     step1 t s mark (s .last) ≡ record { state = s₁; left = l } → step2 t (s .mode) s₁ ≡ s₂ →
-    sumBelow (t .ntasks) (discards t (s .mode) s₁) ≡ n → step3 t s₂ ≡ s₃ → step4 t s₃ ≡ z →
+    sumBelow (t .ntasks) (discards t (s .mode) s₁) ≡ n → step3 t s₂ ≡ s₃ → step4 t s₃ ≡ z → (f : List ℕ) →
+    f ≡ notedOf (t .ntasks) (discards t (s .mode) s₁) →
     (settle t s mark .state ≡ z) × (settle t s mark .left ≡ l) × (sumBelow (t .ntasks) (settle t s mark .discarded) ≡ n)
+    × (f ≡ notedOf (t .ntasks) (settle t s mark .discarded))
 unfolding settle
-settled-is t s mark s₁ s₂ s₃ z l n e₁ e₂ e e₃ e₄ = (rw (e₁, e₂, e₃) e₄, rw e₁, rw e₁ e)
+settled-is t s mark s₁ s₂ s₃ z l n e₁ e₂ e e₃ e₄ f g = (rw (e₁, e₂, e₃) e₄, rw e₁, rw e₁ e, rw e₁ g)
 
 -- One row is one more: as a definition has it, and as a store has it.
 pub anew-one : (n j : ℕ) (xs : List ℕ) → j < n → anew n (λ i x. x + one j i) xs ≡ set xs j (getD xs j 0 + 1)

@@ -1,7 +1,7 @@
 -- `scheduler::answer_event` meets its contract: 13 is decided first, and a sound state goes to the steps
 -- behind the door. Assumes nothing.
 use mathlib.Core.Bool.{true}
-use mathlib.Core.Path.{_≡_, sym, ap, _∙_}
+use mathlib.Core.Path.{_≡_, refl, sym, ap, _∙_}
 use borrow.Author.Tests.{not-true, not-false}
 use borrow.Author.Needs.{needs}
 use Rattle.run.specs.Sound.{sound}
@@ -45,16 +45,18 @@ returns c =
     event-unsound (s .args .r) (s .args .e) (sym (c .before .run-sound .ensures) ∙ not-true _ (c .if1 .taken))
 
 event-in-requires : tie.Need-event-in-requires
-event-in-requires c κs = (entry (headed (sheets c)) .args .r .table, taken (sheets c))
+event-in-requires c κs =
+    let k = sheets (c .before) in
+    ((entry (headed k) .args .r .table, taken k), refl)
 
 returns-2 : tie.Need-returns-2
 returns-2 c =
     let d = c .before .before in
-    let k = sheets (d .before) in
+    let k = sheets (d .before .before) in
     let h = headed k in
     let a = entry h .args in
     rw (c .run-of .ensures)
-    (d .event-in .ensures (a .r .table) (taken k) .says
+    (d .event-in .ensures (a .r .table) (taken k) .answers .says
     ∙ ap (λ x. eventOf x (a .e)) (parts-are (a .r .table) (a .r .state) _ (h .head-of .ensures)))
 
 pub answer-event-spec : {M : Type 1} → statement M

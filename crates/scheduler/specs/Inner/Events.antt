@@ -1,25 +1,24 @@
 -- An event on a state that is sound, on the parts of the run: for every table whose rows stand in
 -- the sheets.
 use mathlib.Core.Path.{_≡_}
-use mathlib.Core.Bool.{Bool, true}
-use mathlib.Core.List.{List}
+use mathlib.Core.Bool.{true}
+use mathlib.Core.List.{List, [], _∷_}
 use Prim.Native.Nat.{ℕ, _<_}
 use lib.ListN.{length}
 use Rattle.table.specs.declared.Level.{Level}
 use Rattle.table.specs.declared.Table.{Table}
 use Rattle.table.specs.Rows.{taskAt}
-use Rattle.run.specs.declared.Answered.{Answered}
 use Rattle.run.specs.declared.Event.{Event}
 use Rattle.run.specs.declared.Run.{Run}
 use Rattle.run.specs.Sound.{sound}
 use Rattle.run.specs.Events.{eventOf}
+use Rattle.run.specs.Found.{TakenTick, takenBy, foundValues}
 use Rattle.run.specs.Release.{releaseOf}
-use Rattle.run.specs.Tick.{tickOf}
 use Rattle.scheduler.specs.declared.parts.Head.{Head}
 use Rattle.scheduler.specs.declared.parts.Step.{Step}
 use Rattle.scheduler.specs.Inner.Parts.{runOf, Counts, Answers}
 use Rattle.scheduler.specs.Inner.Columns.{TasksOn}
-use Rattle.scheduler.specs.Inner.Steps.{Shows}
+use Rattle.scheduler.specs.Inner.Steps.{Shows, noneFound}
 
 -- A release of task k, of level l, makes w′ of the waiting jobs w, whatever the table and the other
 -- counts are.
@@ -45,16 +44,18 @@ pub record SoundRun (t : Table) (h : Head) (servers tasks u e w c : List ℕ) : 
 abbrev pub SomeRun : Head → List ℕ → List ℕ → List ℕ → List ℕ → List ℕ → List ℕ → Type 0
 SomeRun h servers tasks u e w c = (t : Table) × SoundRun t h servers tasks u e w c
 
--- what a definition answers to each such run, a step answers
-abbrev pub AnswersAs : (Run → Answered) → Head → List ℕ → List ℕ → List ℕ → List ℕ → List ℕ → List ℕ → List ℕ → List ℕ →
-    List ℕ → List ℕ → Step → Type 0
-AnswersAs f h servers tasks u e w c u′ e′ w′ c′ d =
-    (t : Table) → SoundRun t h servers tasks u e w c → Answers t d u′ e′ w′ c′ (f (runOf t h u e w c))
+-- what is found: that of the tick, if one was taken, else nothing
+abbrev pub FoundAt : Table → List TakenTick → List ℕ → Type 0
+FoundAt t [] f = f ≡ noneFound
+FoundAt t (m ∷ ms) f = f ≡ foundValues t m
 
-abbrev pub TicksOnce : Head → List ℕ → List ℕ → Bool → List ℕ → List ℕ → List ℕ → List ℕ → List ℕ → List ℕ → List ℕ →
-    List ℕ → Step → Type 0
-TicksOnce h servers tasks mark = AnswersAs (λ r. tickOf r mark) h servers tasks
+-- An event makes the parts and what is found, marked by a prime, of a run's parts, nothing being found
+-- before it.
+pub record TakesOne (t : Table) (r : Run) (ev : Event) (u′ e′ w′ c′ f′ : List ℕ) (d : Step) : Type 0 where
+  pub answers : Answers t d u′ e′ w′ c′ (eventOf r ev)
+  pub found : FoundAt t (takenBy r ev (eventOf r ev .answer)) f′
 
 abbrev pub Takes : Head → List ℕ → List ℕ → Event → List ℕ → List ℕ → List ℕ → List ℕ → List ℕ → List ℕ → List ℕ →
-    List ℕ → Step → Type 0
-Takes h servers tasks e = AnswersAs (λ r. eventOf r e) h servers tasks
+    List ℕ → List ℕ → Step → Type 0
+Takes h servers tasks ev u e w c u′ e′ w′ c′ f′ d =
+    (t : Table) → SoundRun t h servers tasks u e w c → TakesOne t (runOf t h u e w c) ev u′ e′ w′ c′ f′ d

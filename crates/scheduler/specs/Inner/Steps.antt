@@ -3,12 +3,12 @@
 -- every table whose rows stand in the sheets.
 use mathlib.Core.Path.{_≡_}
 use mathlib.Core.Bool.{Bool, true, false}
-use mathlib.Core.List.{List}
+use mathlib.Core.List.{List, _++_}
 use Prim.Native.Nat.{ℕ, _+_, _≤_, _<_}
 use lib.Dec.{ltb, eqb}
-use lib.ListN.{getD}
+use lib.ListN.{getD, replicate}
 use Rattle.laws.specs.Choice.{if_then_else_}
-use Rattle.laws.specs.Rows.{sumBelow}
+use Rattle.laws.specs.Rows.{sumBelow, anew}
 use Rattle.table.specs.declared.ByMode.{ByMode}
 use Rattle.table.specs.declared.Level.{Level}
 use Rattle.table.specs.declared.Mode.{Mode}
@@ -68,11 +68,20 @@ keptOf tasks k x = if eqb (getD tasks (192 + k) 0) 0 then 0 else x
 abbrev pub goneOf : List ℕ → ℕ → ℕ → ℕ
 goneOf tasks k x = if eqb (getD tasks (192 + k) 0) 0 then x else 0
 
-abbrev pub Discards : Head → Mode → List ℕ → List ℕ → List ℕ → List ℕ → List ℕ → ℕ → Type 0
-Discards h before tasks w c w′ c′ r =
+-- what is found, before anything is noted; where it is noted of n tasks only, a number of each stands
+-- behind the servers' places
+abbrev pub noneFound : List ℕ
+noneFound = replicate 96 0
+
+abbrev pub notedOf : ℕ → (ℕ → ℕ) → List ℕ
+notedOf n gone = replicate 32 0 ++ anew n (λ k x. gone k) (replicate 64 0)
+
+abbrev pub Discards : Head → Mode → List ℕ → List ℕ → List ℕ → List ℕ → List ℕ → List ℕ → ℕ → Type 0
+Discards h before tasks w c w′ c′ f′ r =
     (t : Table) (u e : List ℕ) → TasksOn t tasks → h .ntasks ≡ t .ntasks →
     (step2 t before (stateOf h u e w c) ≡ stateOf h u e w′ c′)
     × (sumBelow (t .ntasks) (discards t before (stateOf h u e w c)) ≡ r)
+    × (f′ ≡ notedOf (t .ntasks) (discards t before (stateOf h u e w c)))
 
 -- Step 3.
 abbrev pub waitsAt : List ℕ → ℕ → Bool
@@ -94,15 +103,17 @@ Refills n servers u e u′ e′ =
     step4 t (stateOf h u e w c) ≡ stateOf h u′ e′ w c
 
 -- Steps 1 to 4.
-pub record SettledSo (t : Table) (h : Head) (mark : Bool) (u e w c u′ e′ w′ c′ : List ℕ) (r : Settling) : Type 0 where
+pub record SettledSo (t : Table) (h : Head) (mark : Bool) (u e w c u′ e′ w′ c′ f′ : List ℕ) (r : Settling) :
+    Type 0 where
   pub state : settle t (stateOf h u e w c) mark .state ≡ stateOf (atMode h (r .mode)) u′ e′ w′ c′
   pub left : settle t (stateOf h u e w c) mark .left ≡ r .left
   pub count : sumBelow (t .ntasks) (settle t (stateOf h u e w c) mark .discarded) ≡ r .discarded
+  pub found : f′ ≡ notedOf (t .ntasks) (settle t (stateOf h u e w c) mark .discarded)
 
 abbrev pub Settles : Head → List ℕ → List ℕ → Bool → List ℕ → List ℕ → List ℕ → List ℕ → List ℕ → List ℕ → List ℕ →
-    List ℕ → Settling → Type 0
-Settles h servers tasks mark u e w c u′ e′ w′ c′ r =
-    (t : Table) → ServersOn t servers → TasksOn t tasks → Counts t h → SettledSo t h mark u e w c u′ e′ w′ c′ r
+    List ℕ → List ℕ → Settling → Type 0
+Settles h servers tasks mark u e w c u′ e′ w′ c′ f′ r =
+    (t : Table) → ServersOn t servers → TasksOn t tasks → Counts t h → SettledSo t h mark u e w c u′ e′ w′ c′ f′ r
 
 -- Steps 5 to 7. The rows of a turn are rows of the table, and their counts may rise by 1.
 abbrev pub ServerIn : Table → Turn → Type 0

@@ -7,12 +7,13 @@ use native.Mathlib.Omega.{arith}
 use lib.ListN.{getD}
 use Rattle.table.proofs.Rules.{TableRules, table-rules}
 use Rattle.table.specs.declared.Table.{Table}
+use Rattle.run.specs.Found.{topPriority}
 use Rattle.run.specs.Tick.{highestAble, highestTask}
 use Rattle.run.specs.declared.State.{State}
 use Rattle.scheduler.specs.Inner.Parts.{stateOf}
-use Rattle.scheduler.specs.Inner.Choose.{foundAt}
+use Rattle.scheduler.specs.Inner.Choose.{foundBy, withTops}
 use Rattle.scheduler.specs.Inner.Steps.{Shows}
-use Rattle.scheduler.proofs.Inner.Columns.{owner-on}
+use Rattle.scheduler.proofs.Inner.Columns.{owner-on, task-priority-on}
 use Rattle.scheduler.proofs.Inner.Choose.{waits-found, says-idle, says-turn, row-there, owner-row}
 use Rattle.scheduler.proofs.choose.choose_turn.Statement.{statement}
 use Rattle.scheduler.proofs.choose.choose_turn.Tie as tie
@@ -38,26 +39,27 @@ module _ (c : tie.After-find-able) (t : Table) (e x : List ℕ)
   abbrev top : List ℕ
   top = c .before .before .find-tops .last .1 .1 .1 .1 .0
 
-  tasks-found : (i : ℕ) → i < 32 → foundAt (getD height i 0) (getD top i 0) ≡ highestTask t seen i
-  tasks-found =
+  tops-found : (height ≡ withTops (topPriority t seen) (entry (c .before .before) .args .found .now))
+      × ((i : ℕ) → i < 32 → foundBy (getD height i 0) (getD top i 0) ≡ highestTask t seen i)
+  tops-found =
       let s = entry (c .before .before) in
       c .before .before .find-tops .ensures t (s .args .used .now) e x (p .tasks) (p .counts .tasks)
       (λ k h. rules s t p .task k h .priority-low)
 
-  able-row : foundAt (c .find-able .result .height) (c .find-able .result .row) ≡ highestAble t seen
+  able-row : foundBy (c .find-able .result .height) (c .find-able .result .row) ≡ highestAble t seen
   able-row =
       let s = entry (c .before .before) in
       let r = rules s t p in
       c .find-able .ensures t e (s .args .waiting .now) x (p .servers) (p .counts .servers) (λ i h. r .server i h .priority-low)
-      (λ i h. waits-found t seen i (getD height i 0) (getD top i 0) (tasks-found i (omega (arith, r .servers-high))))
+      (λ i h. waits-found t seen i (getD height i 0) (getD top i 0) (tops-found .1 i (omega (arith, r .servers-high))))
 
 -- the row found is a row of some table
 row-low : (c : tie.Else1) → c .before .before .find-able .result .row < 32
 row-low c =
     let d = c .before .before in
     let s = entry (d .before .before) in
-    let t = s .pre .0 in
-    let p = s .pre .1 in
+    let t = s .pre .0 .0 in
+    let p = s .pre .0 .1 in
     omega (
       arith,
       row-there t (seen d t (s .args .used .now) (s .args .used .now) p) _ _ (able-row d t (s .args .used .now) (s .args .used .now) p)
@@ -68,8 +70,8 @@ row-low c =
 find-tops-requires : tie.Need-find-tops-requires
 find-tops-requires c κs =
     let s = c .before .before in
-    let t = s .pre .0 in
-    let p = s .pre .1 in
+    let t = s .pre .0 .0 in
+    let p = s .pre .0 .1 in
     let r = rules s t p in
     let m = s .args .h .mode in (
       record {
@@ -78,42 +80,47 @@ find-tops-requires c κs =
             λ k h.
             let l : k < t .ntasks = omega (arith, p .counts .tasks) in
             omega (arith, owner-on t (s .args .tasks .now) (p .tasks) k l m, owner-row t r m k l, r .servers-high);
+        priority =
+            λ k h.
+            let l : k < t .ntasks = omega (arith, p .counts .tasks) in
+            omega (arith, task-priority-on t (s .args .tasks .now) (p .tasks) k l, r .task k l .priority-high);
       },
-      refl,
+      s .pre .1,
       refl,
     )
 
 find-able-requires : tie.Need-find-able-requires
 find-able-requires c κs =
     let s = entry (c .before) in
-    omega (arith, s .pre .1 .counts .servers, rules s (s .pre .0) (s .pre .1) .servers-high)
+    omega (arith, s .pre .0 .1 .counts .servers, rules s (s .pre .0 .0) (s .pre .0 .1) .servers-high)
 
 returns : tie.Need-returns
 returns c =
     λ t e x p.
     let d = c .before .before in
-    says-idle t (seen d t e x p) _ _ (able-row d t e x p) (c .if1 .taken)
+    (says-idle t (seen d t e x p) _ _ (able-row d t e x p) (c .if1 .taken), tops-found d t e x p .0)
 
-mul-turn-of : tie.Need-mul-turn-of
-mul-turn-of c = omega (arith, row-low c)
+element-copy-out-turn-of : tie.Need-element-copy-out-turn-of
+element-copy-out-turn-of c = omega (arith, row-low c)
 
 array-read-turn-of : tie.Need-array-read-turn-of
-array-read-turn-of c = row-low c
-
-array-read-turn-of-2 : tie.Need-array-read-turn-of-2
-array-read-turn-of-2 c = row-low c
+array-read-turn-of c = row-low (c .before)
 
 returns-2 : tie.Need-returns-2
 returns-2 c =
     λ t e x p.
-    let d = c .before .before .before in
+    let o = c .before .before in
+    let d = o .before .before in
     let i = d .find-able .result .row in
-    c .turn-of .ensures
-    ∙ says-turn t (seen d t e x p) _ _ (able-row d t e x p) (c .before .if1 .left) (getD (height d t e x p) i 0)
-    (getD (top d t e x p) i 0) (tasks-found d t e x p i (row-low (c .before)))
+    let q = tops-found d t e x p in (
+      c .turn-of .ensures
+          ∙ says-turn t (seen d t e x p) _ _ (able-row d t e x p) (o .if1 .left) (getD (height d t e x p) i 0)
+          (getD (top d t e x p) i 0) (q .1 i (row-low o)),
+      q .0,
+    )
 
 pub choose-turn-spec : {M : Type 1} → statement M
 choose-turn-spec =
     tie.close
-    (tie.spec find-tops-requires find-able-requires returns mul-turn-of array-read-turn-of
-    array-read-turn-of-2 (λ c κs. tt) returns-2)
+    (tie.spec find-tops-requires find-able-requires returns element-copy-out-turn-of
+    array-read-turn-of (λ c κs. tt) returns-2)

@@ -21,15 +21,15 @@ use Rattle.scheduler.proofs.choose.find_able.Statement.{statement}
 use Rattle.scheduler.proofs.choose.find_able.Tie as tie
 
 abbrev Inv-loop : tie.InvT-loop
-Inv-loop servers used height column best₀ high₀ i₀ i-end best high i =
+Inv-loop servers used found column best₀ high₀ i₀ i-end best high i =
     (i ≤ i-end)
     × ((t : Table) (h : Head) (e w c : List ℕ) → column ≡ capacityColumn (h .mode) → ServersOn t servers → i-end ≡ t .nservers →
     ((j : ℕ) → j < t .nservers → 1 ≤ priorityAt t j) →
-    ((j : ℕ) → j < t .nservers → ltb 0 (getD height j 0) ≡ waits t (stateOf h used e w c) j) →
+    ((j : ℕ) → j < t .nservers → ltb 0 (getD found j 0) ≡ waits t (stateOf h used e w c) j) →
     Top i (able t (stateOf h used e w c)) (priorityAt t) high best)
 
 abbrev μ-loop : tie.MeasureT-loop
-μ-loop servers used height column best₀ high₀ i₀ i-end best high i = i-end - i
+μ-loop servers used found column best₀ high₀ i₀ i-end best high i = i-end - i
 
 loop-holds : tie.Need-loop-holds Inv-loop μ-loop
 loop-holds c = (omega arith, λ t h e w x q on n g f. top-none _ _ 0)
@@ -64,7 +64,7 @@ loop-again c =
       λ t h e w x q on n g f.
           rw (v .7, v .8 ∙ high t on n)
           (top-take (able t (stateOf h u e w x)) (priorityAt t) (l .i) (l .high) (l .best) (l .inv .1 t h e w x q on n g f)
-          (sym (able-is t (stateOf h u e w x) ss (l .i) (v .1 .result) (v .2 .result) (getD (a .height .now) (l .i) 0) on (there t n)
+          (sym (able-is t (stateOf h u e w x) ss (l .i) (v .1 .result) (v .2 .result) (getD (a .found .now) (l .i) 0) on (there t n)
           (v .1 .ensures ∙ ap (λ y. getD ss (y + l .i) 0) q) (v .2 .ensures) (f (l .i) (there t n)))
           ∙ sym (v .5 .ensures) ∙ v .6 .taken)
           (subst (λ y. l .high < y) (high t on n) (v .0 .taken))),
@@ -75,7 +75,7 @@ loop-again c =
       λ t h e w x q on n g f.
           rw (v .7, v .8)
           (top-skip (able t (stateOf h u e w x)) (priorityAt t) (l .i) (l .high) (l .best) (l .inv .1 t h e w x q on n g f)
-          (sym (able-is t (stateOf h u e w x) ss (l .i) (v .1 .result) (v .2 .result) (getD (a .height .now) (l .i) 0) on (there t n)
+          (sym (able-is t (stateOf h u e w x) ss (l .i) (v .1 .result) (v .2 .result) (getD (a .found .now) (l .i) 0) on (there t n)
           (v .1 .ensures ∙ ap (λ y. getD ss (y + l .i) 0) q) (v .2 .ensures) (f (l .i) (there t n)))
           ∙ sym (v .5 .ensures) ∙ v .6 .left)),
     ))
@@ -102,5 +102,5 @@ pub find-able-spec : {M : Type 1} → statement M
 find-able-spec =
     tie.close
     (tie.spec Inv-loop μ-loop (λ c κs. tt) loop-holds server-cell-requires server-cell-requires-2
-    server-cell-requires-3 (λ c. omega arith) (λ c. omega arith) (λ c. omega arith)
-    (λ c. omega arith) (λ c κs. tt) (λ c. omega arith) (λ c. omega arith) loop-again returns)
+    server-cell-requires-3 (λ c. omega arith) (λ c. omega arith) (λ c. omega arith) (λ c κs. tt)
+    (λ c. omega arith) (λ c. omega arith) loop-again returns)

@@ -5,16 +5,21 @@ use Rattle.scheduler.proofs.events.event_in.Statement.{statement}
 use Rattle.scheduler.proofs.events.event_in.Tie as tie
 
 release-in-requires : tie.Need-release-in-requires
-release-in-requires c κs = few _ _ _ _ _ _ _ _ (c .before .before .before .before .pre .1) .tasks
+release-in-requires c κs = few _ _ _ _ _ _ _ _ (c .before .before .before .before .pre .0 .1) .tasks
 
 returns : tie.Need-returns
 returns c =
     λ t p.
-    rw (c .before .before .before .e .given .1)
-    (c .release-in .ensures t _ _ _ (p .shows .tasks) (p .shows .counts) (p .sound))
+    let b = c .before .before .before in
+    rw (b .e .given .1)
+    (record {
+      answers = c .release-in .ensures t _ _ _ (p .shows .tasks) (p .shows .counts) (p .sound);
+      found = b .before .before .pre .1;
+    })
 
 returns-2 : tie.Need-returns-2
-returns-2 c = λ t p. rw (c .before .before .before .before .before .before .e2 .given .1) (c .tick-in .ensures t p)
+returns-2 c =
+    λ t p. rw (c .before .before .before .before .before .before .before .e2 .given .1) (c .tick-in .ensures t p)
 
 pub event-in-spec : {M : Type 1} → statement M
 event-in-spec =

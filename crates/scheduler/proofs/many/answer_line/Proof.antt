@@ -10,18 +10,25 @@ returns c =
     λ t p.
     let d = c .before .before in
     let g = d .event-in .ensures t p in
-    rw (d .before .before .before .before .before .before .line .given .1)
+    let a = g .answers in
+    rw (d .before .before .before .before .before .before .before .line .given .1)
     (record {
-      counts = g .counts;
-      told = c .told-of .ensures ∙ ap (λ x. toldOf (x .answer)) (g .says);
-      run = ap (λ x. x .run) (g .says);
+      counts = a .counts;
+      told = c .told-of .ensures ∙ ap (λ x. toldOf (x .answer)) (a .says);
+      run = ap (λ x. x .run) (a .says);
+      found = g .found;
     })
 
 returns-2 : tie.Need-returns-2
 returns-2 c =
     λ t p.
     rw (c .before .enum-told .given .1)
-    (record { counts = p .shows .counts; told = rw (c .number-of .ensures); run = refl })
+    (record {
+      counts = p .shows .counts;
+      told = rw (c .number-of .ensures);
+      run = refl;
+      found = c .before .before .before .pre .1;
+    })
 
 pub answer-line-spec : {M : Type 1} → statement M
 answer-line-spec =

@@ -26,7 +26,7 @@ abbrev μ-loop : tie.MeasureT-loop
 
 -- the place in the loop, and the room for one line more
 abbrev inside : tie.After-told-values Inv-loop μ-loop → tie.In-loop Inv-loop μ-loop
-inside c = c .before .before .before .before .before .before .before .before .before .before
+inside c = c .before .before .before .before .before .before .before .before .before .before .before
 
 room : (c : tie.In-loop Inv-loop μ-loop) → 9 * (c .before .loop .i + 1) ≤ length (c .before .loop .told)
 room c =
@@ -45,9 +45,9 @@ loop-holds c =
 
 answer-line-requires : tie.Need-answer-line-requires Inv-loop μ-loop
 answer-line-requires c κs =
-    let l = c .before .before .before .before .before .before .before .before in
+    let l = c .before .before .before .before .before .before .before .before .before in
     let p = l .before .before .before .pre .1 in
-    (p .0, l .loop .inv .4 (p .0) (p .1) .0)
+    ((p .0, l .loop .inv .4 (p .0) (p .1) .0), refl)
 
 mul-put-values : tie.Need-mul-put-values Inv-loop μ-loop
 mul-put-values c = omega (arith, small (inside (c .before .before)))
@@ -65,7 +65,7 @@ loop-again c =
     let v = c .before .before in
     let x = v .before .before .before in
     let d = x .before .before in
-    let n = d .before .before .before .before .before in
+    let n = d .before .before .before .before .before .before in
     let l = n .before .before .before .before .loop in
     let s = n .before .before .before .before .before .before .before in
     let vs = s .args .lines .now in
@@ -80,7 +80,7 @@ loop-again c =
       λ t p.
           let q = l .inv .4 t p in
           let y = d .answer-line .ensures t (q .0) in (
-            line-keeps t _ _ _ _ _ _ _ (q .0) _ _ _ _ _ _ y,
+            line-keeps t _ _ _ _ _ _ _ (q .0) _ _ _ _ _ _ _ y,
             going-on _ (linesSaid vs) (s .args .told .now) _ (l .told) i (n .line-said .result) _ (x .told-values .result) _
                 (omega (arith, n .before .before .before .loop-test .taken, l .inv .2))
                 (rw (n .line-said .ensures) (line-at vs i m)) (y .run) (x .told-values .ensures ∙ ap toldValues (y .told))

@@ -1,0 +1,4 @@
+pub mod Cases
+pub mod Inner
+pub mod Numbers
+pub mod Page
