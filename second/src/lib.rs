@@ -1,12 +1,13 @@
 //! The rules of the tick scheduler, written from the rule page document 01
-//! alone: tables, their text, the run, the verdicts, and the two programs'
-//! line formats.
+//! alone: tables, their text, the run, the verdicts, and the programs' line
+//! formats; [`report`] is from request No. 1.
 //!
 //! Text holds microseconds; everything else in this library holds ticks. Only
 //! [`text`] converts between the two.
 
 pub mod night;
 pub mod number;
+pub mod report;
 pub mod run;
 pub mod states;
 pub mod table;

@@ -1,21 +1,26 @@
-//! `second night TABLE EVENTS`, `second verdicts TABLE`, `second rewrite TABLE`
-//! and `second states FILE`; `-` stands for standard input.
+//! `second night TABLE EVENTS`, `second report TABLE EVENTS`, `second verdicts
+//! TABLE`, `second rewrite TABLE` and `second states FILE`; `-` stands for
+//! standard input.
 
 use std::ffi::{OsStr, OsString};
 use std::fs::File;
-use std::io::{self, BufRead, BufReader, BufWriter, Read, Write};
+use std::io::{self, BufRead, BufReader, BufWriter, Read, StdoutLock, Write};
 use std::process::ExitCode;
 
 use second::night;
+use second::report;
 use second::run::Run;
 use second::states;
 use second::table::Table;
 use second::text::{self, Refusal};
 use second::verdict;
 
-const USAGE: &str = "usage: second night TABLE EVENTS | second verdicts TABLE | \
-                     second rewrite TABLE | second states FILE";
+const USAGE: &str = "usage: second night TABLE EVENTS | second report TABLE EVENTS | \
+                     second verdicts TABLE | second rewrite TABLE | second states FILE";
 const BUFFER_SIZE: usize = 64 * 1024;
+
+type Events = BufReader<Box<dyn Read>>;
+type Out = BufWriter<StdoutLock<'static>>;
 
 fn main() -> ExitCode {
     let arguments: Vec<OsString> = std::env::args_os().skip(1).collect();
@@ -34,7 +39,8 @@ fn choose_program(arguments: &[OsString]) -> Result<(), String> {
         return Err(USAGE.to_string());
     };
     match (program.to_str(), files) {
-        (Some("night"), &[table, events]) => run_night(table, events),
+        (Some("night"), &[table, events]) => run_events(table, events, night::answer_events),
+        (Some("report"), &[table, events]) => run_events(table, events, report::report_events),
         (Some("verdicts"), &[table]) => print_table(table, verdict::lines),
         (Some("rewrite"), &[table]) => print_table(table, text::write),
         (Some("states"), &[file]) => run_states(file),
@@ -42,7 +48,12 @@ fn choose_program(arguments: &[OsString]) -> Result<(), String> {
     }
 }
 
-fn run_night(table_name: &OsStr, events_name: &OsStr) -> Result<(), String> {
+/// Prints what a program makes of a night, or the table's refusal.
+fn run_events(
+    table_name: &OsStr,
+    events_name: &OsStr,
+    program: fn(&mut Run, &mut Events, &mut Out) -> io::Result<()>,
+) -> Result<(), String> {
     if table_name == "-" && events_name == "-" {
         return Err("standard input cannot be both the table and the events".to_string());
     }
@@ -54,7 +65,7 @@ fn run_night(table_name: &OsStr, events_name: &OsStr) -> Result<(), String> {
     let mut out = BufWriter::with_capacity(BUFFER_SIZE, io::stdout().lock());
     match table {
         Err(refusal) => writeln!(out, "{refusal}"),
-        Ok(table) => night::answer_events(&mut Run::fresh(table), &mut events, &mut out),
+        Ok(table) => program(&mut Run::fresh(table), &mut events, &mut out),
     }
     .and_then(|()| out.flush())
     .map_err(|error| format!("cannot answer the events: {error}"))

@@ -7,12 +7,13 @@ use crate::run::{Answer, How, Run, What};
 
 /// An event line that is well formed.
 #[derive(Clone, Copy, Debug, PartialEq, Eq)]
-enum Event {
+pub enum Event {
     Release(u64),
     Tick(bool),
 }
 
-fn parse_event(line: &[u8]) -> Option<Event> {
+/// The event of a line without its line feed, if it is one.
+pub fn parse_event(line: &[u8]) -> Option<Event> {
     if let Some(task) = line.strip_prefix(b"R\t") {
         return Some(Event::Release(number::parse(task)?));
     }

@@ -172,6 +172,12 @@ impl Run {
 
     /// A tick with its end mark.
     pub fn tick(&mut self, mark: bool) -> Result<Answer, No> {
+        self.tick_telling(mark, |_, _| {})
+    }
+
+    /// A tick with its end mark. Where step 2 discards, it tells for each LO
+    /// task how many of its jobs.
+    pub fn tick_telling(&mut self, mark: bool, tell: impl FnMut(usize, u32)) -> Result<Answer, No> {
         if mark && self.last.is_none() {
             return Err(No::NoJobToEnd);
         }
@@ -189,7 +195,7 @@ impl Run {
         // Step 2.
         let mut discarded = 0;
         if self.mode == Mode::D2 && mode_before != Mode::D2 {
-            discarded = self.discard_lo_jobs();
+            discarded = self.discard_lo_jobs(tell);
         }
 
         // Step 3.
@@ -238,11 +244,13 @@ impl Run {
         None
     }
 
-    /// Step 2: every waiting LO job is discarded; gives their number.
-    fn discard_lo_jobs(&mut self) -> u32 {
+    /// Step 2: every waiting LO job is discarded; gives their number, and tells
+    /// that of each task.
+    fn discard_lo_jobs(&mut self, mut tell: impl FnMut(usize, u32)) -> u32 {
         let mut discarded = 0;
-        for (task, queue) in self.table.tasks.iter().zip(&mut self.queues) {
+        for (row, (task, queue)) in self.table.tasks.iter().zip(&mut self.queues).enumerate() {
             if task.level == Level::Lo {
+                tell(row, queue.waiting);
                 discarded += queue.waiting;
                 *queue = Queue::default();
             }

@@ -60,6 +60,15 @@ fn mistakes_in_the_arguments_and_files() {
     // A refused table prints nothing either if the events cannot be read.
     let empty = file("empty-for-mistakes", b"");
     fails(&["night", &empty, folder]);
+    fails(&["report"]);
+    fails(&["report", &table]);
+    fails(&["report", &table, "-", "-"]);
+    fails(&["report", "-", "-"]);
+    fails(&["report", "no such file", "-"]);
+    fails(&["report", &table, "no such file"]);
+    fails(&["report", &table, folder]);
+    fails(&["report", &empty, folder]);
+    fails(&["report", &empty, "no such file"]);
     fails(&["states", &table]);
 }
 
@@ -80,6 +89,27 @@ fn answers_are_printed() {
 }
 
 #[test]
+fn pages_are_printed() {
+    let one = "tick\t1\nserver\t0\ttimed\t1\t2\t1\t1\t1\ntask\t0\t0\t1\tLO\t1\t1\t1\n";
+    let table = file("table-for-pages", one.as_bytes());
+    let events = file("events-for-pages", b"T\t0\nR\t0\nT\t0\nT\t0");
+    let page = "server\t0\t1\t1\t1\ntask\t0\t0\t0\t0\t1\nmode\tN\t2\nmode\tD1\t0\nmode\tD2\t0\n";
+    let zeros = "server\t0\t0\t0\t0\ntask\t0\t0\t0\t0\t0\nmode\tN\t0\nmode\tD1\t0\nmode\tD2\t0\n";
+    prints(&["report", &table, &events], b"", page);
+    prints(&["report", "-", &events], one.as_bytes(), page);
+    prints(&["report", &table, "-"], b"T\t0\nR\t0\nT\t0\nT\t0", page);
+    prints(&["report", &table, "-"], b"", zeros);
+    // A refused table prints its line only, whatever the events are.
+    for events in ["-", &events] {
+        let empty = file("empty-for-pages", b"");
+        prints(&["report", &empty, events], b"T\t0\n", "table\tno\t1\t1\n");
+    }
+    prints(&["report", "-", &events], b"tick\t0\n", "table\tno\t2\t1\n");
+    let equal = format!("{one}task\t0\t0\t1\tLO\t1\t1\t1\n");
+    prints(&["report", "-", &events], equal.as_bytes(), "table\tno\t5\t3\t4\n");
+}
+
+#[test]
 fn long_lines_and_many_lines() {
     let table = file("table-for-long-lines", EXAMPLE.as_bytes());
     let mut events = b"R\t0".to_vec();
@@ -87,10 +117,20 @@ fn long_lines_and_many_lines() {
     events.extend_from_slice(b"\nR\t0\n");
     let long = file("long-lines", &events);
     prints(&["night", &table, &long], b"", "?\tno\t1\nR\t0\tok\n");
+    let output = second(&["report", &table, &long], b"");
+    let page = String::from_utf8(output.stdout).unwrap();
+    assert_eq!(page.lines().nth(3), Some("task\t0\t0\t0\t0\t1"));
 
     let many = file("many-lines", &b"T\t0\n".repeat(100_000));
     let output = second(&["night", &table, &many], b"");
     let answers = String::from_utf8(output.stdout).unwrap();
     assert_eq!(answers.lines().count(), 100_000);
     assert_eq!(answers.lines().last(), Some("T\t99999\tN\tidle\t-\t-\t-\t-\t0"));
+    // Of 20 ticks server 1 has 5, of 40 server 2 has 8, all of them empty.
+    let output = second(&["report", &table, &many], b"");
+    let page = String::from_utf8(output.stdout).unwrap();
+    let lines: Vec<&str> = page.lines().collect();
+    assert_eq!(lines[1], "server\t1\t25000\t25000\t0");
+    assert_eq!(lines[2], "server\t2\t20000\t20000\t0");
+    assert_eq!(lines[6], "mode\tN\t100000");
 }

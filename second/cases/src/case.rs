@@ -7,7 +7,7 @@ use std::path::Path;
 use crate::damage;
 use crate::events;
 use crate::random::Random;
-use crate::table::{self, text_of};
+use crate::table::{self, text_of, Table};
 
 pub struct Case {
     pub name: String,
@@ -17,6 +17,9 @@ pub struct Case {
 
 /// The cases from this number on are long nights.
 pub const LONG: u64 = 1_000_000_000;
+/// The first of so many long nights has several hundred kilobytes of events, by
+/// turns with a table that serves every job and with any table.
+const LONGEST_EVERY: u64 = 20;
 
 impl Case {
     /// The case of a seed with a number, always the same one.
@@ -24,7 +27,11 @@ impl Case {
         let mut random = Random::for_case(seed, number);
         let random = &mut random;
         if number >= LONG {
-            return Case::long(random);
+            return match (number - LONG) % (2 * LONGEST_EVERY) {
+                0 => Case::longest_serving(random),
+                LONGEST_EVERY => Case::longest(random),
+                _ => Case::long(random),
+            };
         }
         let (good, name) = match random.below(100) {
             0..=35 => (table::small(random), "good-small".to_string()),
@@ -43,19 +50,37 @@ impl Case {
     }
 
     fn long(random: &mut Random) -> Case {
-        let good = match random.below(4) {
-            0 => table::middle(random),
-            1 => table::at_bound(random).0,
-            _ => table::small(random),
-        };
+        let good = long_table(random);
         let events = events::long_events(good.tasks.len(), random);
         Case { name: "good-long".to_string(), table: text_of(&good.lines()), events }
+    }
+
+    /// A night in which jobs may well wait to the end for a server without time.
+    fn longest(random: &mut Random) -> Case {
+        let good = long_table(random);
+        let events = events::longest_events(false, good.tasks.len(), random);
+        Case { name: "good-longest".to_string(), table: text_of(&good.lines()), events }
+    }
+
+    /// A night in which the modes come and go, and LO jobs are discarded often.
+    fn longest_serving(random: &mut Random) -> Case {
+        let good = table::serving(random);
+        let events = events::longest_events(true, good.tasks.len(), random);
+        Case { name: "good-longest-serving".to_string(), table: text_of(&good.lines()), events }
     }
 
     /// Writes the two files, `table` and `events`, into a folder that is there.
     pub fn write_to(&self, folder: &Path) -> io::Result<()> {
         fs::write(folder.join("table"), &self.table)?;
         fs::write(folder.join("events"), &self.events)
+    }
+}
+
+fn long_table(random: &mut Random) -> Table {
+    match random.below(4) {
+        0 => table::middle(random),
+        1 => table::at_bound(random).0,
+        _ => table::small(random),
     }
 }
 
@@ -70,6 +95,20 @@ mod tests {
             assert_eq!(one.name, other.name);
             assert_eq!(one.table, other.table);
             assert_eq!(one.events, other.events);
+        }
+    }
+
+    #[test]
+    fn a_long_night_in_twenty_has_300_kilobytes() {
+        for number in 0..200 {
+            let case = Case::make(3, LONG + number);
+            let name = match number % 40 {
+                0 => "good-longest-serving",
+                20 => "good-longest",
+                _ => "good-long",
+            };
+            assert_eq!(case.name, name);
+            assert!(name == "good-long" || case.events.len() >= 300 * 1024);
         }
     }
 

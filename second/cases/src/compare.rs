@@ -11,10 +11,11 @@ use std::thread;
 use crate::case::{Case, LONG};
 use crate::coverage::Coverage;
 
-const PROGRAMS: [&str; 3] = ["night", "verdicts", "rewrite"];
+const PROGRAMS: [&str; 4] = ["night", "report", "verdicts", "rewrite"];
 
 pub struct Options {
-    /// The folder with the executables `night`, `verdicts` and `rewrite`.
+    /// The folder with the executables `night`, `report`, `verdicts` and
+    /// `rewrite`.
     pub first: PathBuf,
     /// The `second` binary.
     pub second: PathBuf,
@@ -104,6 +105,7 @@ fn work(
                     coverage.night(output);
                     coverage.seams(&case.events, output);
                 }
+                "report" => coverage.page(&case.table, &case.events, output),
                 "verdicts" => coverage.verdicts(output),
                 _ => coverage.rewrite(&case.table, output),
             }
@@ -198,7 +200,7 @@ fn run_all(options: &Options, folder: &Path) -> Result<Vec<Run>, String> {
 
 fn run_one(command: &mut Command, program: &str, folder: &Path) -> Result<Output, String> {
     command.arg(folder.join("table"));
-    if program == "night" {
+    if matches!(program, "night" | "report") {
         command.arg(folder.join("events"));
     }
     command

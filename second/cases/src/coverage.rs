@@ -37,6 +37,29 @@ const WANTED: [&str; 31] = [
     "verdict misses",
 ];
 
+/// The counts of `report`'s pages that must not be 0. Those above 1 are of rows,
+/// the others of pages.
+const PAGES: [&str; 14] = [
+    "page: charged above 1",
+    "page: empty above 1",
+    "page: longest above 1",
+    "page: finished above 1",
+    "page: cut above 1",
+    "page: discarded above 1",
+    "page: waiting above 1",
+    "page: ticks in N above 1",
+    "page: ticks in D1 above 1",
+    "page: ticks in D2 above 1",
+    "page with ticks in D2",
+    "page with discards of two tasks",
+    "page of event servers",
+    "page of timed servers",
+];
+/// And these of long nights.
+const LONG_PAGES: [&str; 2] =
+    ["page of 300 kilobytes of events", "page of 300 kilobytes with discards of two tasks"];
+const LONG_PAGE_BYTES: usize = 300 * 1024;
+
 /// A place where programs cut what they work on, whatever the lines are: so many
 /// bytes read, so many bytes of answers, so many lines taken at once. The counts
 /// are of cuts in a release, in a tick, in another line and at a line's end.
@@ -203,6 +226,68 @@ impl Coverage {
         }
     }
 
+    /// Counts the page of a night by its numbers and by what it is a page of.
+    pub fn page(&mut self, table: &[u8], events: &[u8], output: &[u8]) {
+        if output.starts_with(b"table\t") {
+            return;
+        }
+        let mut tasks_with_discards = 0;
+        for line in String::from_utf8_lossy(output).lines() {
+            let fields: Vec<&str> = line.split('\t').collect();
+            match fields.as_slice() {
+                ["server", _, charged, empty, longest] => {
+                    self.above_1("page: charged above 1", charged);
+                    self.above_1("page: empty above 1", empty);
+                    self.above_1("page: longest above 1", longest);
+                }
+                ["task", _, finished, cut, discarded, waiting] => {
+                    self.above_1("page: finished above 1", finished);
+                    self.above_1("page: cut above 1", cut);
+                    self.above_1("page: discarded above 1", discarded);
+                    self.above_1("page: waiting above 1", waiting);
+                    tasks_with_discards += usize::from(*discarded != "0");
+                }
+                ["mode", "N", ticks] => self.above_1("page: ticks in N above 1", ticks),
+                ["mode", "D1", ticks] => self.above_1("page: ticks in D1 above 1", ticks),
+                ["mode", "D2", ticks] => {
+                    self.above_1("page: ticks in D2 above 1", ticks);
+                    if *ticks != "0" {
+                        self.count("page with ticks in D2");
+                    }
+                }
+                _ => self.count("other answers"),
+            }
+        }
+        if tasks_with_discards >= 2 {
+            self.count("page with discards of two tasks");
+        }
+        for (kind, what) in [("event", "page of event servers"), ("timed", "page of timed servers")]
+        {
+            if has_server(table, kind) {
+                self.count(what);
+            }
+        }
+        if events.len() >= LONG_PAGE_BYTES {
+            self.count(LONG_PAGES[0]);
+            if tasks_with_discards >= 2 {
+                self.count(LONG_PAGES[1]);
+            }
+        }
+    }
+
+    fn above_1(&mut self, what: &'static str, number: &str) {
+        match number.parse::<u64>() {
+            Ok(0 | 1) => {}
+            Ok(number) => {
+                self.count(what);
+                if number > u64::from(u16::MAX) {
+                    self.count("page: a number above 65535");
+                }
+            }
+            Err(_) => self.count("other answers"),
+        }
+    }
+
     /// Counts the verdicts of a table.
     pub fn verdicts(&mut self, output: &[u8]) {
         for line in String::from_utf8_lossy(output).lines() {
@@ -230,11 +315,12 @@ impl Coverage {
     }
 
     /// Prints all counts; gives whether none of the wanted is 0. What stands at
-    /// the seams is wanted of long nights only.
+    /// the seams, and long pages, are wanted of long nights only.
     pub fn print(&self, long: bool) -> bool {
         println!("seen in the answers:");
-        let mut wanted = WANTED.to_vec();
+        let mut wanted = [&WANTED[..], &PAGES[..]].concat();
         if long {
+            wanted.extend(LONG_PAGES);
             wanted.extend(READ.counts.iter().chain(&WRITTEN.counts).chain(&BATCH.counts[..3]));
         }
         let mut complete = true;
@@ -251,6 +337,14 @@ impl Coverage {
         }
         complete
     }
+}
+
+/// Whether a table's text has a server of the kind.
+fn has_server(table: &[u8], kind: &str) -> bool {
+    lines_of(table).any(|line| {
+        let mut fields = line.split(|&byte| byte == b'\t');
+        fields.next() == Some(b"server") && fields.nth(1) == Some(kind.as_bytes())
+    })
 }
 
 fn lines_of(text: &[u8]) -> impl Iterator<Item = &[u8]> {

@@ -19,7 +19,7 @@ pub fn events(tasks: usize, random: &mut Random) -> Vec<u8> {
     let lines = random.within(50, 400);
     let odd = random.pick(&[0, 0, 1, 2, 5, 20]);
     let long_lines = random.chance(6);
-    lines_of(lines, odd, long_lines, tasks, random)
+    lines_of(lines, odd, Habits { long_lines, calms: false }, tasks, random)
 }
 
 /// An event file that no program reads, answers or writes at once.
@@ -27,11 +27,27 @@ pub fn long_events(tasks: usize, random: &mut Random) -> Vec<u8> {
     let lines = random.within(1_000, 20_000);
     let odd = random.pick(&[0, 2, 20, 60]);
     let long_lines = odd == 2 && random.chance(20);
-    lines_of(lines, odd, long_lines, tasks, random)
+    lines_of(lines, odd, Habits { long_lines, calms: false }, tasks, random)
+}
+
+/// An event file of several hundred kilobytes, in lines of the usual lengths.
+pub fn longest_events(calms: bool, tasks: usize, random: &mut Random) -> Vec<u8> {
+    let lines = random.within(80_000, 120_000);
+    let odd = random.pick(&[0, 2, 20]);
+    lines_of(lines, odd, Habits { long_lines: false, calms }, tasks, random)
+}
+
+/// What only some event files have.
+#[derive(Clone, Copy)]
+struct Habits {
+    /// Odd lines of many bytes.
+    long_lines: bool,
+    /// Long stretches without a release, in which the jobs are worked off.
+    calms: bool,
 }
 
 /// An event file of so many lines, or some more.
-fn lines_of(lines: u64, odd: u64, long_lines: bool, tasks: usize, random: &mut Random) -> Vec<u8> {
+fn lines_of(lines: u64, odd: u64, habits: Habits, tasks: usize, random: &mut Random) -> Vec<u8> {
     let mut text = Vec::new();
     let mut written = 0;
     while written < lines {
@@ -45,8 +61,15 @@ fn lines_of(lines: u64, odd: u64, long_lines: bool, tasks: usize, random: &mut R
         }
         let phase = draw_phase(tasks, odd, random);
         for _ in 0..random.within(10, 80) {
-            push_line(&mut text, &phase, tasks, long_lines, random);
+            push_line(&mut text, &phase, tasks, habits.long_lines, random);
             written += 1;
+        }
+        if habits.calms && random.chance(40) {
+            let calm = Phase { release: 0, mark: 60, odd, favourite: None };
+            for _ in 0..random.within(200, 1_200) {
+                push_line(&mut text, &calm, tasks, habits.long_lines, random);
+                written += 1;
+            }
         }
     }
     if random.chance(15) {

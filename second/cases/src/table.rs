@@ -160,6 +160,39 @@ pub fn rich(random: &mut Random) -> Table {
     table
 }
 
+/// A table that serves every job in the end, in each mode, as its servers share
+/// all ticks evenly. So the box comes back to N when no job is released, and
+/// rises again. Two tasks at least are LO, and the highest is HI, so that LO jobs
+/// wait while it overruns.
+pub fn serving(random: &mut Random) -> Table {
+    let shape = Shape {
+        servers: random.within(2, 5) as usize,
+        tasks: random.within(4, 8) as usize,
+        partitions: random.pick(&[1, 1, 2]),
+        longest_period: 1,
+        longest_limit: random.pick(&[1, 2, 3]),
+    };
+    let mut table = draw(&shape, random);
+    let share = random.within(1, 3);
+    let period = share * table.servers.len() as u64;
+    for server in &mut table.servers {
+        server.period = period;
+        server.capacity = [share; 3];
+        if !server.timed {
+            // Its tasks are elsewhere in D1 and D2.
+            server.capacity[1] = random.within(0, share);
+            server.capacity[2] = random.within(0, share);
+        }
+    }
+    let mut rows: Vec<usize> = (0..table.tasks.len()).collect();
+    random.shuffle(&mut rows);
+    for (&row, level) in rows.iter().zip(["HI", "LO", "LO"]) {
+        table.tasks[row].level = level;
+    }
+    give_task_priority(&mut table, rows[0], MAX_PRIORITY);
+    table
+}
+
 fn draw(shape: &Shape, random: &mut Random) -> Table {
     let tick = match random.below(10) {
         0 | 1 => 1,
