@@ -1,13 +1,17 @@
 -- The least number that passes a test: what a search finds. Assumes nothing.
-use mathlib.Core.Path.{_≡_, refl}
-use mathlib.Core.Bool.{Bool, true, false}
-use mathlib.Core.Logic.{_⊎_, inl, inr}
+use mathlib.Core.Path.{_≡_, refl, sym, ap, _∙_}
+use mathlib.Core.Bool.{Bool, true, false, not}
+use mathlib.Core.List.{List, [], _∷_}
+use mathlib.Core.Logic.{_⊎_, _↔_, inl, inr}
 use Prim.Native.Nat.{ℕ, zero, suc, _+_, _≤_, _<_}
 use native.Mathlib.Omega.{arith}
+use lib.ListN.{length, getD}
+use borrow.Author.Tests.{not-true, not-false}
 use Rattle.laws.specs.declared.Found.{Found}
 use Rattle.laws.specs.declared.Found.the-variants.{At, Nothing}
-use Rattle.laws.specs.Search.{least}
-use Rattle.laws.proofs.Choice.{le-or-lt, clash}
+use Rattle.laws.specs.Choice.{every}
+use Rattle.laws.specs.Search.{least, firstFailed, isFound}
+use Rattle.laws.proofs.Choice.{le-or-lt, clash, every-at, every-build, every-fails}
 
 -- what a search among r, .., r + n - 1 answers: the least that passes, or nothing where none does
 pub data Searched (p : ℕ → Bool) (r n : ℕ) : Found → Type 0 where
@@ -66,3 +70,110 @@ none-passes p r n e = go (least p r n) e (least-is p r n)
     go : (a : Found) → a ≡ Nothing → Searched p r n a → (y : ℕ) → r ≤ y → y < r + n → p y ≡ false
     go a q (hit v l u t z) y h k = let c : _≡_ {A = ℕ} 0 1 = cc in absurd (omega arith)
     go a q (miss z) y h k = z y h k
+
+-- The first test of a list that fails. Past the list nothing fails, whatever stands there.
+inside : (bs : List Bool) (k : ℕ) (d e : Bool) → k < length bs → getD bs k d ≡ getD bs k e
+inside [] k d e h = absurd (omega arith)
+inside (b ∷ bs) zero d e h = refl
+inside (b ∷ bs) (suc k) d e h = inside bs k d e (omega arith)
+
+abbrev failing : List Bool → ℕ → Bool
+failing bs k = not (getD bs k true)
+
+-- as a loop over the tests has it
+pub fails-first : (bs : List Bool) (k : ℕ) → k < length bs → ((j : ℕ) → j < k → getD bs j false ≡ true) →
+    getD bs k false ≡ false → At k ≡ firstFailed bs
+unfolding firstFailed
+fails-first bs k h before e =
+    is-least (failing bs) 0 (length bs) (At k)
+    (hit k (omega arith) (omega arith) (ap not (inside bs k true false h ∙ e))
+    (λ j a l. ap not (inside bs j true false (omega arith) ∙ before j l)))
+
+pub fails-nowhere : (bs : List Bool) → ((k : ℕ) → k < length bs → getD bs k false ≡ true) →
+    Nothing ≡ firstFailed bs
+unfolding firstFailed
+fails-nowhere bs f =
+    is-least (failing bs) 0 (length bs) Nothing
+    (miss (λ j a l. ap not (inside bs j true false (omega arith) ∙ f j (omega arith))))
+
+-- of two that fail the first
+pub first-of-two : firstFailed (true ∷ false ∷ false ∷ []) ≡ At 1
+unfolding firstFailed least
+first-of-two = refl
+
+-- what the place that is found says of the tests
+pub record FailsAt (bs : List Bool) (k : ℕ) : Type 0 where
+  pub below : k < length bs
+  pub fails : getD bs k true ≡ false
+  pub first : (j : ℕ) → j < k → getD bs j true ≡ true
+
+pub failed-at : (bs : List Bool) (k : ℕ) → (firstFailed bs ≡ At k) ↔ FailsAt bs k
+unfolding firstFailed
+failed-at bs k = (
+  λ e.
+      let p = found-passes (failing bs) 0 (length bs) k e in
+      record {
+        below = omega (arith, p .2);
+        fails = not-true (getD bs k true) (p .0);
+        first = λ j l. not-false (getD bs j true) (found-first (failing bs) 0 (length bs) k e j (omega arith) l);
+      },
+  λ f.
+      sym
+      (fails-first bs k (f .below)
+      (λ j l. inside bs j false true (omega (arith, f .below)) ∙ f .first j l)
+      (inside bs k false true (f .below) ∙ f .fails)),
+)
+
+-- none fails exactly if all hold
+pub failed-none : (bs : List Bool) → (firstFailed bs ≡ Nothing) ↔ (every bs ≡ true)
+unfolding firstFailed
+failed-none bs = (
+  λ e.
+      sym
+      (every-build bs
+      (λ k l.
+      inside bs k false true l
+      ∙ not-false (getD bs k true) (none-passes (failing bs) 0 (length bs) e k (omega arith) (omega arith)))),
+  λ e. sym (fails-nowhere bs (λ k l. inside bs k false true l ∙ every-at bs e k)),
+)
+
+pub failed-some : (bs : List Bool) (k : ℕ) → firstFailed bs ≡ At k → every bs ≡ false
+failed-some bs k e =
+    let f = failed-at bs k .0 e in
+    sym (every-fails bs k (f .below) (inside bs k false true (f .below) ∙ f .fails))
+
+pub all-hold : (bs : List Bool) → every bs ≡ not (isFound (firstFailed bs))
+all-hold bs = go (firstFailed bs) refl
+  where
+    go : (x : Found) → firstFailed bs ≡ x → every bs ≡ not (isFound x)
+    go (At k) e = failed-some bs k e
+    go Nothing e = failed-none bs .0 e
+
+-- test by test: none of no test fails; one that fails is the first; past one that holds it is the
+-- first of the others, a place further on
+pub failed-empty : firstFailed [] ≡ Nothing
+unfolding firstFailed least
+failed-empty = refl
+
+pub failed-here : (bs : List Bool) → firstFailed (false ∷ bs) ≡ At 0
+unfolding firstFailed least
+failed-here bs = refl
+
+abbrev pub onePast : Found → Found
+onePast (At k) = At (suc k)
+onePast Nothing = Nothing
+
+pub failed-past : (bs : List Bool) → firstFailed (true ∷ bs) ≡ onePast (firstFailed bs)
+unfolding every
+failed-past bs = go (firstFailed bs) refl
+  where
+    first : (k : ℕ) → FailsAt bs k → (j : ℕ) → j < suc k → getD (true ∷ bs) j true ≡ true
+    first k f zero l = refl
+    first k f (suc j) l = f .first j (omega arith)
+
+    go : (x : Found) → firstFailed bs ≡ x → firstFailed (true ∷ bs) ≡ onePast x
+    go (At k) e =
+        let f = failed-at bs k .0 e in
+        failed-at (true ∷ bs) (suc k) .1
+        (record { below = omega (arith, f .below); fails = f .fails; first = first k f })
+    go Nothing e = failed-none (true ∷ bs) .1 (failed-none bs .0 e)

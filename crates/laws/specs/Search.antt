@@ -1,6 +1,8 @@
--- The least number that passes a test, or none: responses, rows and pairs are found so.
-use mathlib.Core.Bool.{Bool, true, false}
+-- The least number that passes a test, or none: responses, rows, pairs and fields are found so.
+use mathlib.Core.Bool.{Bool, true, false, not}
+use mathlib.Core.List.{List}
 use Prim.Native.Nat.{ℕ, zero, suc}
+use lib.ListN.{length, getD}
 use Rattle.laws.specs.declared.Found.{Found}
 use Rattle.laws.specs.declared.Found.the-variants.{At, Nothing}
 
@@ -8,6 +10,10 @@ use Rattle.laws.specs.declared.Found.the-variants.{At, Nothing}
 unfoldable pub least : (ℕ → Bool) → ℕ → ℕ → Found
 least p r zero = Nothing
 least p r (suc n) = elim (p r) [ true ↦ At r | false ↦ least p (suc r) n ]
+
+-- the place, from 0, of the first test of a list that fails, or none
+unfoldable pub firstFailed : List Bool → Found
+firstFailed bs = least (λ k. not (getD bs k true)) 0 (length bs)
 
 abbrev pub isFound : Found → Bool
 isFound (At x) = true

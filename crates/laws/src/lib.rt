@@ -3,23 +3,34 @@
 
 ghost use mathlib.Core.Path.{_≡_};
 ghost use Rattle.laws.specs.Choice.{every, within, larger};
+ghost use Rattle.laws.specs.Search.{firstFailed};
 
-// A number that was looked for: a row, or a response.
+// A number that was looked for: a row, a response, or a field.
 pub enum Found {
     At(usize),
     Nothing,
+}
+
+// The place, from 0, of the first test of a list that fails, or none.
+pub fn first_failed(b: &[bool]) -> Found
+    ensures { λ r. ⌜ r ≡ firstFailed (now (b .entry)) ⌝ }
+{
+    for i in 0..b.len() {
+        if !b[i] {
+            return Found::At(i);
+        }
+    }
+    Found::Nothing
 }
 
 // Whether every test of a list holds: a rule that is a list of tests is code that lends that list.
 pub fn all_of(b: &[bool]) -> bool
     ensures { λ r. ⌜ r ≡ every (now (b .entry)) ⌝ }
 {
-    for i in 0..b.len() {
-        if !b[i] {
-            return false;
-        }
+    match first_failed(b) {
+        Found::At(_) => false,
+        Found::Nothing => true,
     }
-    true
 }
 
 // Whether a number lies from low to high, both included.

@@ -1,55 +1,19 @@
--- `laws::all_of` meets its contract: each test passed holds, so the first that does not decides,
--- and past the last all do. Assumes nothing.
-use Prim.Native.Nat.{ℕ, _≤_, _<_, _-_}
-use mathlib.Core.Path.{_≡_}
-use mathlib.Core.Bool.{true, false}
-use native.Mathlib.Omega.{arith}
+-- `laws::all_of` meets its contract: all hold exactly if none fails. Assumes nothing.
+use mathlib.Core.Path.{sym, _∙_}
 use borrow.Author.Needs.{needs}
-use borrow.Author.Count.{below-more}
-use borrow.Author.Tests.{not-true, not-false}
-use lib.ListN.{length, getD}
-use Rattle.laws.proofs.Choice.{every-build, every-fails}
+use Rattle.laws.proofs.Search.{failed-some, failed-none}
 use Rattle.laws.proofs.all_of.Statement.{statement}
 use Rattle.laws.proofs.all_of.Tie as tie
 
-abbrev Inv-loop : tie.InvT-loop
-Inv-loop b i₀ i-end i = (i ≤ length b) × ((k : ℕ) → k < i → getD b k false ≡ true)
-
-abbrev μ-loop : tie.MeasureT-loop
-μ-loop b i₀ i-end i = length b - i
-
-loop-holds : tie.Need-loop-holds Inv-loop μ-loop
-loop-holds c = (search needs, λ k h. absurd (omega arith))
-
-shared-slice-read-if1 : tie.Need-shared-slice-read-if1 Inv-loop μ-loop
-shared-slice-read-if1 c = search needs
-
-returns : tie.Need-returns Inv-loop μ-loop
+returns : tie.Need-returns
 returns c =
-    every-fails
-    (c .before .before .before .before .args .b .now)
-    (c .before .before .before .loop .i)
-    (search needs)
-    (not-true _ (c .if1 .taken))
+    let told = c .enum-told .given in
+    sym (failed-some _ (told .0 .0) (sym (c .before .before .first-failed .ensures) ∙ told .1))
 
-add-i : tie.Need-add-i Inv-loop μ-loop
-add-i c = search needs
-
-loop-less : tie.Need-loop-less Inv-loop μ-loop
-loop-less c = search needs
-
-loop-again : tie.Need-loop-again Inv-loop μ-loop
-loop-again c =
-    (search needs, below-more _ _ (c .before .before .before .loop .inv .1) (not-false _ (c .if1 .left)))
-
-returns-2 : tie.Need-returns-2 Inv-loop μ-loop
+returns-2 : tie.Need-returns-2
 returns-2 c =
-    every-build
-    (c .before .before .args .b .now)
-    (λ k h. c .before .loop .inv .1 k (omega arith))
+    sym (failed-none _ .0 (sym (c .before .before .first-failed .ensures) ∙ c .enum-told2 .given .1))
 
 pub all-of-spec : {M : Type 1} → statement M
 all-of-spec =
-    tie.close
-    (tie.spec Inv-loop μ-loop loop-holds shared-slice-read-if1 returns add-i loop-less loop-again
-    returns-2)
+    tie.close (tie.spec (search needs) (search needs) (search needs) returns returns-2)
