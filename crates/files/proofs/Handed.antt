@@ -21,7 +21,7 @@ answerIn Unread = Equal 0 0
 
 isTaken : Reading → Bool
 isTaken Taken = true
-isTaken (Refused why line) = false
+isTaken (Refused why line field) = false
 isTaken (Equal first second) = false
 
 keeps : (how : How) (text : List ℕ) → answerIn (givenOf how text .case) ≡ Taken →

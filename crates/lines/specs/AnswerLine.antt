@@ -8,7 +8,7 @@ use Rattle.decimal.specs.Lines.{tab, lineFeed, join}
 use Rattle.table.specs.declared.Refusal.the-variants.{Malformed}
 use Rattle.table.specs.Refusals.{numberOf}
 use Rattle.text.specs.declared.Reading.{Reading}
-use Rattle.text.specs.Read.{readingNumber, readingLines}
+use Rattle.text.specs.Read.{readingNumber, readingValues}
 use Rattle.run.specs.declared.Turn.{Turn}
 use Rattle.run.specs.declared.Turn.the-variants.{Run as Ran, Empty, Idle}
 use Rattle.run.specs.declared.Left.{Left}
@@ -59,9 +59,10 @@ answerFields Another x = anotherLetter ∷ outcome x
 abbrev pub anotherFields : List (List ℕ)
 anotherFields = answerFields Another (No (numberOf Malformed))
 
--- "A refused table prints only `table⇥no⇥number⇥line`, for 5 with the second line after it."
+-- "A refused table prints only `table⇥no⇥number⇥line`, for 5 with the second line after it." 02,
+-- No. 2: "with 1, 2, 3 and all of these give the field", which stands after the line.
 abbrev pub refusedFields : Reading → List (List ℕ)
-refusedFields a = tableWord ∷ noWord ∷ digits (readingNumber a) ∷ map digits (readingLines a)
+refusedFields a = tableWord ∷ noWord ∷ digits (readingNumber a) ∷ map digits (readingValues a)
 
 abbrev pub printed : List (List ℕ) → List ℕ
 printed = join tab

@@ -21,7 +21,7 @@ answerLines r (l ∷ ls) = printed (answerFields l (toldTo r l)) ∷ answerLines
 -- line.
 unfoldable pub nightLines : Reading → Run → List EventLine → List (List ℕ)
 nightLines Taken r ls = answerLines r ls
-nightLines (Refused why line) r ls = printed (refusedFields (Refused why line)) ∷ []
+nightLines (Refused why line field) r ls = printed (refusedFields (Refused why line field)) ∷ []
 nightLines (Equal first second) r ls = printed (refusedFields (Equal first second)) ∷ []
 
 unfoldable pub night : List ℕ → List ℕ → List ℕ

@@ -8,7 +8,7 @@ use Prim.Native.String.{String}
 use lib.ListN.{replicate}
 use Rattle.laws.specs.Choice.{every}
 use Rattle.laws.specs.Quoted.{bytes, lined}
-use Rattle.laws.specs.Search.{least}
+use Rattle.laws.specs.Search.{least, firstFailed}
 use Rattle.laws.specs.RoundUp.{up}
 use Rattle.laws.specs.Rows.{allBelow, anyBelow, sumBelow, highest, anew}
 use Rattle.decimal.specs.Number.{areDigits, numberForm, isNumber, worthFrom, digitsIn, digits}
@@ -21,7 +21,7 @@ use Rattle.table.specs.Rows.{tableOf}
 use Rattle.table.specs.Rules.{tableKeeps, keeps, serverKeeps, taskKeeps, taskFault, taskStands, differ}
 use Rattle.table.specs.Pairs.{laterEqual, firstPair}
 use Rattle.text.specs.Words.{tickWord, serverWord, taskWord, eventWord, timedWord, loWord, miWord, hiWord}
-use Rattle.text.specs.Line.{tickForm, serverForm, taskForm, allFit, has, lineOf, readLine}
+use Rattle.text.specs.Line.{tickForm, serverForm, taskForm, fieldTests, formTests, lineBy, lineOf, readLine}
 use Rattle.text.specs.Standing.{placed, serverBounds, taskBounds, bounds, serverWhole, wholes, fault, standing, grown}
 use Rattle.text.specs.Read.{compared, ended, readFrom, read, shown}
 use Rattle.run.specs.declared.Event.{Event}
@@ -74,10 +74,10 @@ lows =
 
 unfoldable computed : Unit {0}
 unfolding
-    every least up allBelow anyBelow sumBelow highest anew areDigits numberForm isNumber worthFrom digitsIn
+    every least firstFailed up allBelow anyBelow sumBelow highest anew areDigits numberForm isNumber worthFrom digitsIn
     digits split join closed same tableOf tableKeeps keeps serverKeeps taskKeeps taskFault taskStands differ laterEqual
     firstPair tickWord serverWord taskWord eventWord timedWord loWord miWord hiWord tickForm serverForm
-    taskForm allFit has lineOf readLine placed serverBounds taskBounds bounds serverWhole wholes fault standing grown
+    taskForm fieldTests formTests lineBy lineOf readLine placed serverBounds taskBounds bounds serverWhole wholes fault standing grown
     compared ended readFrom read shown waits someWaits
     sound soundState soundServer soundTask soundFront soundLast soundCounts releaseOf judge step1
     drops discards step2 step3 step4 settle able highestAble highestTask choose advance tickTaken tickOf after
@@ -213,6 +213,6 @@ unfolding computed
 page-of-no-line = refl
 
 -- a table without a tick length
-pub page-of-no-table : report (lined ("tick\t0" ∷ [])) (lined ("T\t0" ∷ [])) ≡ lined ("table\tno\t2\t1" ∷ [])
+pub page-of-no-table : report (lined ("tick\t0" ∷ [])) (lined ("T\t0" ∷ [])) ≡ lined ("table\tno\t2\t1\t1" ∷ [])
 unfolding computed
 page-of-no-table = refl

@@ -59,7 +59,7 @@ reportLines r es =
 -- A refused table prints only its `table` line, as the night does.
 unfoldable pub morningLines : Reading → Run → List Event → List (List ℕ)
 morningLines Taken r es = reportLines r es
-morningLines (Refused why line) r es = printed (refusedFields (Refused why line)) ∷ []
+morningLines (Refused why line field) r es = printed (refusedFields (Refused why line field)) ∷ []
 morningLines (Equal first second) r es = printed (refusedFields (Equal first second)) ∷ []
 
 -- a table file and an event file, and all that is printed

@@ -136,7 +136,8 @@ fn main() {
     let help = b"night TABLE EVENTS\n\
         Prints the answer to each line of the file EVENTS, from a fresh start with the\n\
         table in TABLE.\n\
-        A table that is refused prints one line: table, no, number, line (for 5 both).\n\
+        A table that is refused prints one line: table, no, number, line, field\n\
+        (0 is the line itself; for 5 both lines and no field).\n\
         `-` stands for standard input. README.md has the forms and the numbers.\n";
     if files::asked_for_help(help) {
         return;

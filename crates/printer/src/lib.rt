@@ -341,9 +341,10 @@ fn store_refused(a: Reading, room: &mut [u8], at: usize) -> usize
     let b = store_all(b"\tno", room, t);
     match a {
         Reading::Taken => store_last(0, room, b),
-        Reading::Refused { why, line } => {
+        Reading::Refused { why, line, field } => {
             let c = store_field(number_of(why), room, b);
-            store_last(line as u64, room, c)
+            let d = store_field(line as u64, room, c);
+            store_last(field as u64, room, d)
         }
         Reading::Equal { first, second } => {
             let c = store_field(5, room, b);

@@ -1,6 +1,6 @@
 -- The statements of specs/Condition1.antt, proved: each cites the law that says it. Why the
--- reader's cases hold: Reading.antt; why the rules are these inequalities: Rules.antt. Assumes
--- nothing.
+-- reader's cases hold: Reading.antt; why a line's numbers and fields are these: Asked.antt; why the
+-- rules are these inequalities: Rules.antt. Assumes nothing.
 use mathlib.Core.Path.{_≡_, refl, sym, ap, subst, _∙_}
 use mathlib.Core.Bool.{Bool, true, false, not, _&&_, _||_}
 use mathlib.Core.List.{[], _∷_}
@@ -19,7 +19,7 @@ use Rattle.table.specs.declared.Refusal.the-variants.{CountSpent}
 use Rattle.table.specs.Rows.{tableOf, taskAt, isLow, isD2}
 use Rattle.table.specs.Rules.{tableKeeps}
 use Rattle.text.specs.declared.Reading.{Reading}
-use Rattle.text.specs.Read.{readingNumber, readingLines, taken as takenRows, read, shown}
+use Rattle.text.specs.Read.{readingNumber, readingValues, taken as takenRows, read, shown}
 use Rattle.text.proofs.RoundTrip.{table-rows, write-then-read, read-then-write, read-keeps}
 use Rattle.text.proofs.RoundTrip.{written-fits, taken-exactly}
 use Rattle.text.proofs.Refused.{wrote-0, wrote-12, wrote-13, text-written, room-as-it-was}
@@ -48,14 +48,17 @@ use Rattle.lines.specs.Print.{longestAnswer}
 use Rattle.lines.proofs.Cutting.{cut-12, cut-0, cut-as-it-was, cut-beyond}
 use Rattle.lines.proofs.Print.{print-12, print-0, print-as-it-was, print-beyond}
 use Rattle.promises.specs.Condition1.{NoTableBack, NoTableKeepsNone, ReadKeeps, RowsRead}
-use Rattle.promises.specs.Condition1.{EachStart, EachRelease, EachTick, counting}
-use Rattle.promises.specs.Condition1.{NeitherCount}
+use Rattle.promises.specs.Condition1.{EachLine, EachFault, EachStart, EachRelease, EachTick}
+use Rattle.promises.specs.Condition1.{counting, NeitherCount}
 use Rattle.promises.specs.Condition1.{RefusedChangesNothing, EachMany, EachFind, EachWrite, RoomEnough}
 use Rattle.promises.specs.Condition1.{WriteThenRead, ReadThenWrite, verdictNumber}
 use Rattle.promises.specs.Condition1.{EachVerdict}
-use Rattle.promises.specs.Condition1.{EachCut, EachPrint, AnswerLines, TableLines, PairLines}
+use Rattle.promises.specs.Condition1.{EachCut, EachPrint, AnswerLines, TableLines}
+use Rattle.promises.specs.Condition1.{DegradedLines, PairLines}
 use Rattle.promises.proofs.Opened.{opened}
 use Rattle.promises.proofs.Reading.{is-taken, refused-rows}
+use Rattle.promises.proofs.Tests.{_and_}
+use Rattle.promises.proofs.Asked.{line-told, faults}
 use Rattle.promises.proofs.Rules.{times-whole}
 
 -- The reader: each-read of Reading.antt, and
@@ -80,6 +83,13 @@ rows-read text a = (
       ∙ ap takenRows (sym (table-rows (read text .rows)) ∙ p .1)),
   λ w. let e = taken-exactly text a .1 w in rw e ((refl, refl), table-rows a),
 )
+
+-- A line, and 41 to 45.
+pub each-line : EachLine
+each-line n a line = line-told n a line .exactly
+
+pub each-fault : EachFault
+each-fault = faults
 
 -- A start, and events.
 pub each-start : EachStart
@@ -221,7 +231,7 @@ room-is-enough = written-fits
 pub writing-then-reading : WriteThenRead
 writing-then-reading t e =
     let p = write-then-read t e in
-    ((ap readingNumber (p .0), ap readingLines (p .0)), p .1)
+    ((ap readingNumber (p .0), ap readingValues (p .0)), p .1)
 
 pub reading-then-writing : ReadThenWrite
 unfolding shown
@@ -298,7 +308,13 @@ answer-lines = refl
 
 pub table-lines : TableLines
 unfolding opened
-table-lines = (refl, (refl, (refl, (refl, (refl, (refl, (refl, (refl, (refl, tt)))))))))
+table-lines =
+    refl and refl and refl and refl and refl and refl and refl and refl and refl and refl and refl
+    and refl and refl and refl and refl and refl and tt
+
+pub degraded-lines : DegradedLines
+unfolding opened
+degraded-lines = refl and refl and refl and tt
 
 pub pair-lines : PairLines
 unfolding opened

@@ -10,6 +10,8 @@ pub mod Bounds
 pub mod Shown
 pub mod Pairs
 pub mod Reading
+pub mod Tests
+pub mod Asked
 pub mod Rules
 pub mod Condition1
 pub mod ByTheRules
@@ -20,3 +22,4 @@ pub mod InUse
 pub mod Dummies
 pub mod Reworded
 pub mod Morning
+pub mod OldReading

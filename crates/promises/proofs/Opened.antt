@@ -1,6 +1,6 @@
 -- Every definition that a figure computes with, under one name.
 use Rattle.laws.specs.Choice.{every}
-use Rattle.laws.specs.Search.{least}
+use Rattle.laws.specs.Search.{least, firstFailed}
 use Rattle.laws.specs.RoundUp.{up}
 use Rattle.laws.specs.Rows.{allBelow, anyBelow, sumBelow, highest, anew}
 use Rattle.decimal.specs.Number.{areDigits, numberForm, isNumber, worthFrom, digitsIn, digits}
@@ -9,7 +9,7 @@ use Rattle.table.specs.Rows.{tableOf}
 use Rattle.table.specs.Rules.{tableKeeps, keeps, serverKeeps, taskKeeps, taskFault, taskStands, differ}
 use Rattle.table.specs.Pairs.{laterEqual, firstPair}
 use Rattle.text.specs.Words.{tickWord, serverWord, taskWord, eventWord, timedWord, loWord, miWord, hiWord}
-use Rattle.text.specs.Line.{tickForm, serverForm, taskForm, allFit, has, lineOf, readLine}
+use Rattle.text.specs.Line.{tickForm, serverForm, taskForm, fieldTests, formTests, lineBy, lineOf, readLine}
 use Rattle.text.specs.Standing.{placed, serverBounds, taskBounds, bounds, serverWhole, wholes, fault, standing, grown}
 use Rattle.text.specs.Read.{compared, ended, readFrom, read, shown}
 use Rattle.verdict.specs.Verdict.{verdictOf, responseAt, meets, interference}
@@ -26,10 +26,10 @@ use Rattle.promises.specs.Example.{two}
 
 unfoldable pub opened : Unit {0}
 unfolding
-    every least up allBelow anyBelow sumBelow highest anew areDigits numberForm isNumber worthFrom digitsIn
+    every least firstFailed up allBelow anyBelow sumBelow highest anew areDigits numberForm isNumber worthFrom digitsIn
     digits split join closed same tableOf tableKeeps keeps serverKeeps taskKeeps taskFault taskStands differ laterEqual
     firstPair tickWord serverWord taskWord eventWord timedWord loWord miWord hiWord tickForm serverForm
-    taskForm allFit has lineOf readLine placed serverBounds taskBounds bounds serverWhole wholes fault standing grown compared ended readFrom read shown verdictOf responseAt meets interference waits someWaits
+    taskForm fieldTests formTests lineBy lineOf readLine placed serverBounds taskBounds bounds serverWhole wholes fault standing grown compared ended readFrom read shown verdictOf responseAt meets interference waits someWaits
     sound soundState soundServer soundTask soundFront soundLast soundCounts startOf releaseOf judge step1
     drops discards step2 step3 step4 settle able highestAble highestTask choose advance tickTaken tickOf after
     answers

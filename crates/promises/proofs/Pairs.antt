@@ -16,6 +16,7 @@ use Rattle.table.specs.Rows.{Rows, noServer, noTask}
 use Rattle.table.proofs.Pairs.{AllDiffer, IsFirst}
 use Rattle.text.specs.declared.Line.{Line}
 use Rattle.text.specs.declared.Line.the-variants.{OfTick, OfServer, OfTask, Malformed}
+use Rattle.text.specs.Line.{noLine}
 use Rattle.text.specs.Write.{serverBack, taskBack, serverLines, taskLines, linesOf}
 use Rattle.text.proofs.Ticks.{rounded}
 use Rattle.promises.specs.Condition1.{lineAt, isServer, isTask, priorityIn, EqualLines}
@@ -100,34 +101,34 @@ module _ (of : Line → Bool) (text : List ℕ) (top n : ℕ) (p : ℕ → ℕ)
 
 -- Where the lines of some rows stand: the tick's, the servers', the tasks'.
 server-at : (t : ℕ) (ss : List Server) (rest : List Line) (i : ℕ) → i < length ss →
-    getD (serverLines t ss ++ rest) i Malformed ≡ OfServer (serverBack t (getD ss i noServer))
+    getD (serverLines t ss ++ rest) i noLine ≡ OfServer (serverBack t (getD ss i noServer))
 unfolding serverLines
 server-at t [] rest i h = absurd (omega arith)
 server-at t (s ∷ ss) rest zero h = refl
 server-at t (s ∷ ss) rest (suc i) h = server-at t ss rest i (omega arith)
 
 past-servers : (t : ℕ) (ss : List Server) (rest : List Line) (i : ℕ) →
-    getD (serverLines t ss ++ rest) (length ss + i) Malformed ≡ getD rest i Malformed
+    getD (serverLines t ss ++ rest) (length ss + i) noLine ≡ getD rest i noLine
 unfolding serverLines
 past-servers t ss rest i =
     let e = length-map ss (λ s. OfServer (serverBack t s)) in
-    rw (← e) (getD-append-add (serverLines t ss) rest i Malformed)
+    rw (← e) (getD-append-add (serverLines t ss) rest i noLine)
 
 task-at : (t : ℕ) (ks : List Task) (i : ℕ) → i < length ks →
-    getD (taskLines t ks) i Malformed ≡ OfTask (taskBack t (getD ks i noTask))
+    getD (taskLines t ks) i noLine ≡ OfTask (taskBack t (getD ks i noTask))
 unfolding taskLines
 task-at t [] i h = absurd (omega arith)
 task-at t (k ∷ ks) zero h = refl
 task-at t (k ∷ ks) (suc i) h = task-at t ks i (omega arith)
 
-task-only : (t : ℕ) (ks : List Task) (i : ℕ) → isTask (getD (taskLines t ks) i Malformed) ≡ true →
+task-only : (t : ℕ) (ks : List Task) (i : ℕ) → isTask (getD (taskLines t ks) i noLine) ≡ true →
     i < length ks
 unfolding taskLines
 task-only t [] i e = absurd (clash false e refl)
 task-only t (k ∷ ks) zero e = omega arith
 task-only t (k ∷ ks) (suc i) e = omega (arith, task-only t ks i e)
 
-no-server : (t : ℕ) (ks : List Task) (i : ℕ) → isServer (getD (taskLines t ks) i Malformed) ≡ false
+no-server : (t : ℕ) (ks : List Task) (i : ℕ) → isServer (getD (taskLines t ks) i noLine) ≡ false
 unfolding taskLines
 no-server t [] i = refl
 no-server t (k ∷ ks) zero = refl
@@ -144,11 +145,11 @@ unfolding rounded
 rounded-alike t (OfTick u) = record { server = refl; task = refl; priority = refl }
 rounded-alike t (OfServer s) = record { server = refl; task = refl; priority = refl }
 rounded-alike t (OfTask k) = record { server = refl; task = refl; priority = refl }
-rounded-alike t Malformed = record { server = refl; task = refl; priority = refl }
+rounded-alike t (Malformed word field) = record { server = refl; task = refl; priority = refl }
 
 -- The lines of a text that are those of the rows a, but for rounding.
 module _ (text : List ℕ) (a : Rows)
-    (is : (m : ℕ) → rounded (a .tick .0) (lineAt text (suc m)) ≡ getD (linesOf a) m Malformed) where
+    (is : (m : ℕ) → rounded (a .tick .0) (lineAt text (suc m)) ≡ getD (linesOf a) m noLine) where
   abbrev t : ℕ
   t = a .tick .0
 
@@ -162,7 +163,7 @@ module _ (text : List ℕ) (a : Rows)
   abbrev Says : ℕ → Line → Type 0
   Says m l = Alike (lineAt text m) l
 
-  says : (m : ℕ) (l : Line) → getD (linesOf a) m Malformed ≡ l → Says (suc m) l
+  says : (m : ℕ) (l : Line) → getD (linesOf a) m noLine ≡ l → Says (suc m) l
   says m l e = rw (← e, ← is m) (rounded-alike t (lineAt text (suc m)))
 
   server-line : (i : ℕ) → i < ns →
@@ -173,11 +174,11 @@ module _ (text : List ℕ) (a : Rows)
       let l = OfServer (serverBack t (getD (a .servers) i noServer)) in
       rw e (says (suc i) l (server-at t (a .servers) tasks i h))
 
-  past-line : (i : ℕ) → Says (2 + ns + i) (getD tasks i Malformed)
+  past-line : (i : ℕ) → Says (2 + ns + i) (getD tasks i noLine)
   unfolding linesOf
   past-line i =
       let e : 2 + ns + i ≡ suc (suc (ns + i)) = omega arith in
-      rw e (says (suc (ns + i)) (getD tasks i Malformed) (past-servers t (a .servers) tasks i))
+      rw e (says (suc (ns + i)) (getD tasks i noLine) (past-servers t (a .servers) tasks i))
 
   tick-line : Says 1 (OfTick (a .tick))
   unfolding linesOf

@@ -1,5 +1,5 @@
--- The reader's cases: each gives its number and its lines, and every text is in one of them, so
--- each is given exactly in its case. Assumes nothing.
+-- The reader's cases: each gives its number, its line and its field, for 5 both lines, and every
+-- text is in one of them, so each is given exactly in its case. Assumes nothing.
 use mathlib.Core.Path.{_≡_, refl, sym, ap, subst, _∙_}
 use mathlib.Core.Bool.{Bool, true, false}
 use mathlib.Core.List.{List, [], _∷_, _++_, map}
@@ -19,27 +19,26 @@ use Rattle.table.specs.declared.Standing.{Standing}
 use Rattle.table.specs.declared.Standing.the-variants.{Kept, Broken}
 use Rattle.table.specs.declared.Pair.{Pair}
 use Rattle.table.specs.declared.Pair.the-variants.{Equal as EqualRows, Differ}
-use Rattle.table.specs.Refusals.{standingNumber}
+use Rattle.table.specs.Refusals.{standingNumber, standingField}
 use Rattle.table.specs.Rows.{Rows, noRows, noServer, noTask}
 use Rattle.table.specs.Pairs.{equalServers as pairOfServers, equalTasks as pairOfTasks}
 use Rattle.table.proofs.Pairs.{Paired, is-pair, pair-is}
-use Rattle.text.specs.declared.Line.the-variants.{Malformed}
 use Rattle.text.specs.declared.Reading.the-variants.{Taken}
-use Rattle.text.specs.Line.{readLine}
+use Rattle.text.specs.Line.{noLine, readLine}
 use Rattle.text.specs.Standing.{isNil}
 use Rattle.text.specs.Read.{ReadRows, refused}
-use Rattle.text.specs.Read.{readingNumber, readingLines, compared, ended, readFrom, read, shown}
+use Rattle.text.specs.Read.{readingNumber, readingValues, compared, ended, readFrom, read, shown}
 use Rattle.text.specs.Allowed.{grownBy}
 use Rattle.text.specs.Write.{linesOf}
 use Rattle.text.proofs.Ticks.{rounded}
-use Rattle.text.proofs.Refused.{line-0}
+use Rattle.text.proofs.Refused.{standing-0}
 use Rattle.text.proofs.Standing.{not-nil}
 use Rattle.text.proofs.Allowed.{told}
 use Rattle.text.proofs.RoundTrip.{nothing-said}
 use Rattle.text.proofs.ReadFrom.{standingAt, first-told, all-told, all-kept, FirstBroken}
 use Rattle.text.proofs.ReadFrom.{first-or-all}
 use Rattle.promises.specs.Condition1.{closedLines, bytesAt, lineAt, endLine, rowsAbove}
-use Rattle.promises.specs.Condition1.{faultAt, StandAbove, Complete}
+use Rattle.promises.specs.Condition1.{standingOf, faultAt, faultField, StandAbove, Complete}
 use Rattle.promises.specs.Condition1.{isServer, isTask, NoneEqual, ReadCase, tooLong}
 use Rattle.promises.specs.Condition1.{firstFault, unclosed}
 use Rattle.promises.specs.Condition1.{missing, equalServers, equalTasks, taken, EachRead}
@@ -48,7 +47,7 @@ use Rattle.promises.proofs.Pairs.{servers-stretch, tasks-stretch}
 
 -- what comes back with the answer r
 abbrev Comes : ReadRows → ℕ → List ℕ → Type 0
-Comes r k lines = (readingNumber (r .answer) ≡ k) × (readingLines (r .answer) ≡ lines)
+Comes r k values = (readingNumber (r .answer) ≡ k) × (readingValues (r .answer) ≡ values)
 
 -- a part of a text that ends with an empty part
 empty-last : (xs : List (List ℕ)) (m : ℕ) → getD (xs ++ ([] ∷ [])) m [] ≡ getD xs m []
@@ -87,15 +86,21 @@ module _ (text : List ℕ) where
   rest = bytesAt text (endLine text)
 
   -- line j + 1 is part j
-  fault-at : (j : ℕ) → faultAt text (suc j) ≡ standingNumber (standingAt 1 noRows parts j)
-  fault-at j =
+  standing-at : (j : ℕ) → standingOf text (suc j) ≡ standingAt 1 noRows parts j
+  standing-at j =
       let e : 1 + j ≡ suc j = omega arith in
       let f : suc j - 1 ≡ j = omega arith in
       rw (e, f)
 
+  fault-at : (j : ℕ) → faultAt text (suc j) ≡ standingNumber (standingAt 1 noRows parts j)
+  fault-at j = ap standingNumber (standing-at j)
+
+  field-at : (j : ℕ) → faultField text (suc j) ≡ standingField (standingAt 1 noRows parts j)
+  field-at j = ap standingField (standing-at j)
+
   stand-kept : (n : ℕ) → StandAbove text (suc n) → AllKept n
   stand-kept n s j l =
-      line-0 (1 + j) (grownBy noRows (map readLine (take j parts))) (readLine (getD parts j [])) .0
+      standing-0 (standingAt 1 noRows parts j) .0
       (sym (fault-at j) ∙ s (suc j) (omega arith) (omega arith))
 
   kept-stand : (n : ℕ) → AllKept n → StandAbove text (suc n)
@@ -112,7 +117,7 @@ module _ (text : List ℕ) where
   -- where all closed lines stand
   read-end : length text ≤ 16384 → StandAbove text (endLine text) → (b : Bool) →
       isNil rest ≡ b →
-      read text ≡ (if b then ended (endLine text) rows else refused MalformedWhy (endLine text))
+      read text ≡ (if b then ended (endLine text) rows else refused MalformedWhy (endLine text) 0)
   read-end h s b e =
       let z : 1 + many ≡ many + 1 = omega arith in
       short-read h ∙ all-told 1 noRows parts many one-more (end-stand s) ∙ rw (← e, z, end)
@@ -127,7 +132,7 @@ module _ (text : List ℕ) where
       read-end (c .short) (c .stand) true (rw e) ∙ rw (not-nil (rows .tasks) t)
 
   lines-are : Complete text → (m : ℕ) →
-      rounded (rows .tick .0) (lineAt text (suc m)) ≡ getD (linesOf rows) m Malformed
+      rounded (rows .tick .0) (lineAt text (suc m)) ≡ getD (linesOf rows) m noLine
   unfolding rounded
   lines-are c m =
       let t = rows .tick .0 in
@@ -142,7 +147,7 @@ module _ (text : List ℕ) where
       let k = all-kept 1 noRows parts many one-more (end-stand (c .stand)) in
       let d = told (map readLine ls) k (rw end at (c .task)) in
       rw (z, q, d .lines)
-      (sym (List·getD-map (rounded t) (map readLine ls) m Malformed ∙
+      (sym (List·getD-map (rounded t) (map readLine ls) m noLine ∙
       ap (λ l. rounded t (getD (map readLine ls) m l)) (sym nothing-said) ∙
       ap (rounded t) (List·getD-map readLine ls m [])))
 
@@ -174,54 +179,55 @@ module _ (text : List ℕ) where
       let f = none-rows isTask text (2 + servers) tasks taskPriority (of-tasks c) d in
       sym (is-pair tasks taskPriority Differ f)
 
-  -- a first part that does not stand is told, with its line
-  fault-told : (n : ℕ) → length text ≤ 16384 → n < many → StandAbove text (suc n) → (s : Standing) →
-      standingAt 1 noRows parts n ≡ s → 1 ≤ standingNumber s →
-      (Comes (read text) (standingNumber s) (suc n ∷ [])) × (read text .rows ≡ noRows)
-  fault-told n h l a Kept e b = absurd (omega arith)
-  fault-told n h l a (Broken why) e b =
+  -- a first part that does not stand is told, with its line and its field
+  first-fault-told : (n : ℕ) → length text ≤ 16384 → n < many → StandAbove text (suc n) →
+      (s : Standing) → standingAt 1 noRows parts n ≡ s → 1 ≤ standingNumber s →
+      (Comes (read text) (standingNumber s) (suc n ∷ standingField s ∷ []))
+      × (read text .rows ≡ noRows)
+  first-fault-told n h l a Kept e b = absurd (omega arith)
+  first-fault-told n h l a (Broken why field) e b =
       let z : 1 + n ≡ suc n = omega arith in
-      let q : read text ≡ refused why (1 + n) =
+      let q : read text ≡ refused why (1 + n) field =
       short-read h
-      ∙ first-told 1 noRows parts n why (omega (arith, one-more)) (stand-kept n a) e in
+      ∙ first-told 1 noRows parts n why field (omega (arith, one-more)) (stand-kept n a) e in
       rw (q, z) ((refl, refl), refl)
 
-  -- each case gives its number and lines; the text is taken, or its rows do not come back
-  case-told : (k : ℕ) (lines : List ℕ) → ReadCase text k lines →
-      Comes (read text) k lines
+  -- each case gives its number and values; the text is taken, or its rows do not come back
+  case-told : (k : ℕ) (values : List ℕ) → ReadCase text k values →
+      Comes (read text) k values
       × ((read text .answer ≡ Taken) ⊎ ((1 ≤ k) × (read text .rows ≡ noRows)))
   unfolding read ended compared
-  case-told k lines (tooLong h) =
+  case-told k values (tooLong h) =
       rw (lt-leb (length text) 16384 h) ((refl, refl), inr (omega arith, refl))
-  case-told k lines (firstFault zero h l c a b) = absurd (omega arith)
-  case-told k lines (firstFault (suc n) h l c a b) =
+  case-told k values (firstFault zero h l c a b) = absurd (omega arith)
+  case-told k values (firstFault (suc n) h l c a b) =
       let e = fault-at n in
-      let r = fault-told n h (omega arith) a (standingAt 1 noRows parts n) refl (rw e at b) in
-      rw e (r .0, inr (rw e at b, r .1))
-  case-told k lines (unclosed h a b) =
+      let r = first-fault-told n h (omega arith) a (standingAt 1 noRows parts n) refl (rw e at b) in
+      rw (e, field-at n) (r .0, inr (rw e at b, r .1))
+  case-told k values (unclosed h a b) =
       rw (read-end h a false (not-nil rest b)) ((refl, refl), inr (omega arith, refl))
-  case-told k lines (missing h a b t) =
+  case-told k values (missing h a b t) =
       let e = nil rest b in
       let z = nil (rows .tasks) (rw end at t) in
       rw (read-end h a true (rw e), z) ((refl, refl), inr (omega arith, refl))
-  case-told k lines (equalServers x y c f) =
+  case-told k values (equalServers x y c f) =
       let r = first-rows isServer text 2 servers serverPriority (of-servers c) x y f in
       let u : 2 + (x - 2) ≡ x = omega (arith, r .0) in
       let v : 2 + (y - 2) ≡ y = omega (arith, r .0, r .1) in
       let p = is-pair servers serverPriority (EqualRows (x - 2) (y - 2)) (r .2) in
       rw (read-complete c, ← p, u, v) ((refl, refl), inr (omega arith, refl))
-  case-told k lines (equalTasks x y c d f) =
+  case-told k values (equalTasks x y c d f) =
       let top = 2 + servers in
       let r = first-rows isTask text top tasks taskPriority (of-tasks c) x y f in
       let u : top + (x - top) ≡ x = omega (arith, r .0) in
       let v : top + (y - top) ≡ y = omega (arith, r .0, r .1) in
       let p = is-pair tasks taskPriority (EqualRows (x - top) (y - top)) (r .2) in
       rw (read-complete c, servers-differ c d, ← p, u, v) ((refl, refl), inr (omega arith, refl))
-  case-told k lines (taken c d e) =
+  case-told k values (taken c d e) =
       rw (read-complete c, servers-differ c d, tasks-differ c e) ((refl, refl), inl refl)
 
   abbrev SomeCase : Type 0
-  SomeCase = (k : ℕ) × (lines : List ℕ) × ReadCase text k lines
+  SomeCase = (k : ℕ) × (values : List ℕ) × ReadCase text k values
 
   -- a complete text is taken, or a pair of lines is equal
   task-case : Complete text → NoneEqual isServer text → (q : Pair) → Paired tasks taskPriority q →
@@ -242,16 +248,14 @@ module _ (text : List ℕ) where
       task-case c d (pairOfTasks (rows .tasks)) (pair-is tasks taskPriority)
 
   -- a closed line that does not stand has a number
-  some-number : (n : ℕ) (why : Refusal) → standingAt 1 noRows parts n ≡ Broken why →
-      1 ≤ faultAt text (suc n)
-  some-number n why e = go (le-or-lt 1 (faultAt text (suc n)))
+  some-number : (n : ℕ) (why : Refusal) (field : ℕ) →
+      standingAt 1 noRows parts n ≡ Broken why field → 1 ≤ faultAt text (suc n)
+  some-number n why field e = go (le-or-lt 1 (faultAt text (suc n)))
     where
       go : (1 ≤ faultAt text (suc n)) ⊎ (faultAt text (suc n) < 1) → 1 ≤ faultAt text (suc n)
       go (inl h) = h
       go (inr h) =
-          let a = grownBy noRows (map readLine (take n parts)) in
-          let l = readLine (getD parts n []) in
-          let k = line-0 (1 + n) a l .0 (sym (fault-at n) ∙ omega arith) in
+          let k = standing-0 (standingAt 1 noRows parts n) .0 (sym (fault-at n) ∙ omega arith) in
           let z : _≡_ {A = ℕ} 0 1 = cc in
           absurd (omega arith)
 
@@ -264,8 +268,9 @@ module _ (text : List ℕ) where
 
       end-case : length text ≤ 16384 → StandAbove text (endLine text) →
           (length rest ≤ 0) ⊎ (0 < length rest) → (lines ≤ 0) ⊎ (0 < lines) → SomeCase
-      end-case h a (inr b) t = (1, endLine text ∷ [], unclosed h a b)
-      end-case h a (inl b) (inl t) = (1, endLine text ∷ [], missing h a (omega arith) (omega arith))
+      end-case h a (inr b) t = (1, endLine text ∷ 0 ∷ [], unclosed h a b)
+      end-case h a (inl b) (inl t) =
+          (1, endLine text ∷ 0 ∷ [], missing h a (omega arith) (omega arith))
       end-case h a (inl b) (inr t) =
           let c : Complete text = record { short = h; stand = a; closes = omega arith; task = t } in
           pair-case c (pairOfServers (rows .servers)) (pair-is servers serverPriority)
@@ -274,27 +279,27 @@ module _ (text : List ℕ) where
       line-case h (inl f) =
           let n = f .place in (
             faultAt text (suc n),
-            suc n ∷ [],
+            suc n ∷ faultField text (suc n) ∷ [],
             firstFault (suc n) h (omega arith) (omega (arith, f .below)) (kept-stand n (f .kept))
-                (some-number n (f .why) (f .broken)),
+                (some-number n (f .why) (f .field) (f .broken)),
           )
       line-case h (inr k) =
           let s = kept-stand many k in
           end-case h (λ m g l. s m g (omega arith)) (le-or-lt (length rest) 0) (le-or-lt lines 0)
 
       length-case : (length text ≤ 16384) ⊎ (16384 < length text) → SomeCase
-      length-case (inr h) = (2, 0 ∷ [], tooLong h)
+      length-case (inr h) = (2, 0 ∷ 0 ∷ [], tooLong h)
       length-case (inl h) = line-case h (first-or-all 1 noRows parts many)
 
 pub each-read : EachRead
 unfolding shown
-each-read text k lines = (
+each-read text k values = (
   λ r.
       let s = some-case text in
       let t = case-told text (s .0) (s .1) (s .2) .0 in
-      subst (λ n. ReadCase text n lines) (sym (t .0) ∙ r .0)
+      subst (λ n. ReadCase text n values) (sym (t .0) ∙ r .0)
       (subst (ReadCase text (s .0)) (sym (t .1) ∙ r .1) (s .2)),
-  λ c. case-told text k lines c .0,
+  λ c. case-told text k values c .0,
 )
 
 -- "a refused read hands back no table", and number 0 is the answer of a text that is taken

@@ -5,11 +5,12 @@
 -- a statement of every text, table, run and room is one of all that may be handed in.
 --
 -- The statements, in this order, the words of each above it: of the reader EachRead, NoTableBack,
--- NoTableKeepsNone, ReadKeeps, RowsRead; of a line EachLine; of what is handed in TableExactly,
--- SoundExactly; of the run EachStart, EachRelease, EachTick, NeitherCount, RefusedChangesNothing,
--- EachMany, EachFind; of the writer EachWrite, RoomEnough, WriteThenRead, ReadThenWrite; EachVerdict,
--- EachCut, EachPrint; and on texts worked out by hand AnswerLines, TableLines, PairLines.
--- proofs/Condition1.antt proves them, with Reading and Rules beside it.
+-- NoTableKeepsNone, ReadKeeps, RowsRead; of a line EachLine, EachFault; of what is handed in
+-- TableExactly, SoundExactly; of the run EachStart, EachRelease, EachTick, NeitherCount,
+-- RefusedChangesNothing, EachMany, EachFind; of the writer EachWrite, RoomEnough, WriteThenRead,
+-- ReadThenWrite; EachVerdict, EachCut, EachPrint; and on texts worked out by hand AnswerLines,
+-- TableLines, DegradedLines, PairLines.
+-- proofs/Condition1.antt proves them, with Reading, Asked and Rules beside it.
 use mathlib.Core.Path.{_≡_}
 use mathlib.Core.Bool.{Bool, true, false}
 use mathlib.Core.List.{List, [], _∷_, _++_, map}
@@ -18,31 +19,33 @@ use Prim.Native.Nat.{ℕ, _+_, _*_, _-_, _%_, _≤_, _<_}
 use Prim.Native.String.{String}
 use lib.ListN.{length, getD, take, drop}
 use Rattle.laws.specs.Quoted.{bytes, lined}
-use Rattle.laws.specs.RoundUp.{up}
 use Rattle.laws.specs.Rows.{sumBelow}
 use Rattle.units.specs.declared.Ticks.{Ticks}
-use Rattle.decimal.specs.Lines.{lineFeed, split}
+use Rattle.decimal.specs.Number.{isNumber, worth}
+use Rattle.decimal.specs.Lines.{tab, lineFeed, split}
 use Rattle.table.specs.declared.Level.the-variants.{LO}
 use Rattle.table.specs.declared.Kind.{Kind}
-use Rattle.table.specs.declared.Kind.the-variants.{Timed}
+use Rattle.table.specs.declared.Kind.the-variants.{Event as EventKind, Timed}
 use Rattle.table.specs.declared.ByMode.{ByMode}
 use Rattle.table.specs.declared.Mode.{Mode}
 use Rattle.table.specs.declared.Mode.the-variants.{D2}
 use Rattle.table.specs.declared.Server.{Server}
 use Rattle.table.specs.declared.Task.{Task}
 use Rattle.table.specs.declared.Table.{Table}
-use Rattle.table.specs.Refusals.{numberOf, standingNumber}
+use Rattle.table.specs.declared.Standing.{Standing}
+use Rattle.table.specs.Refusals.{numberOf, standingNumber, standingField}
 use Rattle.table.specs.Rows.{Rows, rowsOf, noRows, noTable, noServer, noTask, serverAt, taskAt}
 use Rattle.table.specs.Rows.{periodAt, limitAt, largest}
-use Rattle.table.specs.Rules.{tableKeeps}
-use Rattle.text.specs.declared.ServerLine.{ServerLine}
+use Rattle.table.specs.Rules.{taskFault, tableKeeps}
+use Rattle.text.specs.declared.Word.{Word}
+use Rattle.text.specs.declared.Word.the-variants.{ATick, AServer, ATask, Unknown}
 use Rattle.text.specs.declared.TaskLine.{TaskLine}
 use Rattle.text.specs.declared.Line.{Line}
 use Rattle.text.specs.declared.Line.the-variants.{OfTick, OfServer, OfTask, Malformed}
 use Rattle.text.specs.declared.Read.{Read}
-use Rattle.text.specs.Line.{readLine}
+use Rattle.text.specs.Line.{fieldAt, serverSaid, taskSaid, leading, readLine}
 use Rattle.text.specs.Standing.{limitsOf, standing}
-use Rattle.text.specs.Read.{readingNumber, readingLines, read, shown}
+use Rattle.text.specs.Read.{readingNumber, readingValues, read, shown}
 use Rattle.text.specs.Allowed.{grownBy, Allowed}
 use Rattle.text.specs.Write.{Wrote, write, writingNumber, writingValues, wrote}
 use Rattle.verdict.specs.declared.Verdict.{Verdict}
@@ -66,13 +69,14 @@ use Rattle.lines.specs.Cutting.{CutInto, cutOf}
 use Rattle.lines.specs.Print.{linesLent, PrintedInto, printOf}
 use Rattle.lines.specs.Night.{night}
 
--- THE READER, numbers 1 to 5. What the reader hands back for a text, by number and lines.
+-- THE READER, numbers 1, 2, 3, 41 to 45 and 5. What the reader hands back for a text: the number,
+-- and the line and the field, for 5 both lines.
 abbrev pub readAs : List ℕ → Read
 readAs text = shown (read text)
 
 abbrev pub Reads : List ℕ → ℕ → List ℕ → Type 0
-Reads text k lines =
-    (readingNumber (readAs text .answer) ≡ k) × (readingLines (readAs text .answer) ≡ lines)
+Reads text k told =
+    (readingNumber (readAs text .answer) ≡ k) × (readingValues (readAs text .answer) ≡ told)
 
 -- "Rows count from 0 within their kind, lines from 1." How many lines are closed by a line feed;
 -- the bytes of line n; and what they say.
@@ -93,9 +97,16 @@ endLine text = closedLines text + 1
 abbrev pub rowsAbove : List ℕ → ℕ → Rows
 rowsAbove text n = grownBy noRows (map readLine (take (n - 1) (split lineFeed text)))
 
--- the number of line n where it stands, 0 if it keeps the rules there: `LineNumbers` says which
+-- the number of line n where it stands, 0 if it keeps the rules there, and its field: `EachLine`
+-- says which
+abbrev pub standingOf : List ℕ → ℕ → Standing
+standingOf text n = standing n (rowsAbove text n) (lineAt text n)
+
 abbrev pub faultAt : List ℕ → ℕ → ℕ
-faultAt text n = standingNumber (standing n (rowsAbove text n) (lineAt text n))
+faultAt text n = standingNumber (standingOf text n)
+
+abbrev pub faultField : List ℕ → ℕ → ℕ
+faultField text n = standingField (standingOf text n)
 
 abbrev pub StandAbove : List ℕ → ℕ → Type 0
 StandAbove text n = (m : ℕ) → 1 ≤ m → m < n → faultAt text m ≡ 0
@@ -112,19 +123,19 @@ abbrev pub isServer : Line → Bool
 isServer (OfTick t) = false
 isServer (OfServer s) = true
 isServer (OfTask k) = false
-isServer Malformed = false
+isServer (Malformed word field) = false
 
 abbrev pub isTask : Line → Bool
 isTask (OfTick t) = false
 isTask (OfServer s) = false
 isTask (OfTask k) = true
-isTask Malformed = false
+isTask (Malformed word field) = false
 
 abbrev pub priorityIn : Line → ℕ
 priorityIn (OfTick t) = 0
 priorityIn (OfServer s) = s .priority
 priorityIn (OfTask k) = k .priority
-priorityIn Malformed = 0
+priorityIn (Malformed word field) = 0
 
 pub record EqualLines (of : Line → Bool) (text : List ℕ) (x y : ℕ) : Type 0 where
   pub counted : 1 ≤ x
@@ -144,20 +155,21 @@ pub record FirstEqual (of : Line → Bool) (text : List ℕ) (x y : ℕ) : Type 
   pub pair : EqualLines of text x y
   pub first : (v w : ℕ) → Before v w x y → EqualLines of text v w → ⊥
 
--- The cases of the reader, in the page's order, each with its number and the lines that come back.
+-- The cases of the reader, in the page's order, each with its number and what comes back: the line,
+-- and "the field, counted from 1 after the leading word, or 0 for the line itself".
 pub data ReadCase (text : List ℕ) : ℕ → List ℕ → Type 0 where
   -- "Reading: length first"; 2, "text too long (line 0)"
-  tooLong : 16384 < length text → ReadCase text 2 (0 ∷ [])
-  -- "then line by line 1, 2, 3, 4": the first line that does not stand, and its number
+  tooLong : 16384 < length text → ReadCase text 2 (0 ∷ 0 ∷ [])
+  -- "then line by line": the first line that does not stand, its number and its field
   firstFault : (n : ℕ) → length text ≤ 16384 → 1 ≤ n → n ≤ closedLines text → StandAbove text n →
-      1 ≤ faultAt text n → ReadCase text (faultAt text n) (n ∷ [])
+      1 ≤ faultAt text n → ReadCase text (faultAt text n) (n ∷ faultField text n ∷ [])
   -- "an unclosed last line 1 at itself"
   unclosed : length text ≤ 16384 → StandAbove text (endLine text) →
-      1 ≤ length (bytesAt text (endLine text)) → ReadCase text 1 (endLine text ∷ [])
+      1 ≤ length (bytesAt text (endLine text)) → ReadCase text 1 (endLine text ∷ 0 ∷ [])
   -- "Empty text is 1 at line 1, a missing line 1 at the line after the last"
   missing : length text ≤ 16384 → StandAbove text (endLine text) →
       length (bytesAt text (endLine text)) ≡ 0 → length (rowsAbove text (endLine text) .tasks) ≡ 0 →
-      ReadCase text 1 (endLine text ∷ [])
+      ReadCase text 1 (endLine text ∷ 0 ∷ [])
   -- "then 5 for the first pair of server rows with equal priority, smaller row first"
   equalServers : (x y : ℕ) → Complete text → FirstEqual isServer text x y →
       ReadCase text 5 (x ∷ y ∷ [])
@@ -169,7 +181,7 @@ pub data ReadCase (text : List ℕ) : ℕ → List ℕ → Type 0 where
 
 abbrev pub EachRead : Type 0
 EachRead =
-    (text : List ℕ) (k : ℕ) (lines : List ℕ) → Reads text k lines ↔ ReadCase text k lines
+    (text : List ℕ) (k : ℕ) (told : List ℕ) → Reads text k told ↔ ReadCase text k told
 
 -- "a refused read hands back no table": what stands beside a refusal keeps no rule, and what is
 -- taken keeps them all
@@ -199,102 +211,203 @@ All (P ∷ Ps) = P × All Ps
 abbrev pub Within : ℕ → ℕ → ℕ → Type 0
 Within low high x = (low ≤ x) × (x ≤ high)
 
--- A LINE, numbers 1 to 4: line n below the rows a; what it says is readLine of Rattle.text.specs.
+-- A LINE, numbers 1, 2, 3 and 41 to 45: line n below the rows a. What is asked of it, and the
+-- number and the field that are told where that does not hold.
+pub record Asked : Type 1 where
+  pub number : ℕ
+  pub field : ℕ
+  pub holds : Type 0
+
+infix 4 no_at_unless_
+abbrev pub no_at_unless_ : ℕ → ℕ → Type 0 → Asked
+no number at field unless P = record { number = number; field = field; holds = P }
+
+-- "the first that applies being told"; where all hold, number and field are 0
+abbrev pub Tells : List {1} Asked → ℕ → ℕ → Type 0
+Tells [] number field = (number ≡ 0) × (field ≡ 0)
+Tells (q ∷ qs) number field =
+    ((q .holds → ⊥) × (number ≡ q .number) × (field ≡ q .field))
+    ⊎ (q .holds × Tells qs number field)
+
+-- all that is asked holds
+abbrev pub AllHold : List {1} Asked → Type 0
+AllHold [] = Unit {0}
+AllHold (q ∷ qs) = q .holds × AllHold qs
+
+-- 1, "malformed": what a field is expected to be
+abbrev pub IsNumber : List ℕ → Type 0
+IsNumber f = isNumber f ≡ true
+
+abbrev pub IsKind : List ℕ → Type 0
+IsKind f = (f ≡ bytes "event") ⊎ (f ≡ bytes "timed")
+
+abbrev pub IsLevel : List ℕ → Type 0
+IsLevel f = (f ≡ bytes "LO") ⊎ ((f ≡ bytes "MI") ⊎ (f ≡ bytes "HI"))
+
 -- 1, "malformed, missing or misplaced line, or unknown word": "one `tick` line, then 1 to 32
--- `server` lines, then 1 to 64 `task` lines"
-abbrev pub Placed : ℕ → Rows → Line → Type 0
-Placed n a (OfTick t) = n ≡ 1
-Placed n a (OfServer s) = (2 ≤ n) × (length (a .tasks) ≡ 0)
-Placed n a (OfTask k) = 1 ≤ length (a .servers)
-Placed n a Malformed = ⊥
+-- `server` lines, then 1 to 64 `task` lines". "a wrong leading word or count of fields in 1, and a
+-- row too many in 2, is told first, as 0": a misplaced line has the wrong leading word there.
+--
+-- The first line. "`tick`: microseconds in a tick, 1 to 10,000."
+abbrev pub tickAsked : ℕ → List (List ℕ) → List {1} Asked
+tickAsked n fs =
+    (no 1 at 0 unless (n ≡ 1))
+    ∷ (no 1 at 0 unless (length fs ≡ 1))
+    ∷ (no 1 at 1 unless IsNumber (fieldAt fs 1))
+    ∷ (no 2 at 1 unless Within 1 10000 (worth (fieldAt fs 1)))
+    ∷ []
 
--- 2, "a number or row count out of bounds". "A 33rd server or 65th task is 2 at its line."
--- "partition 0 to 15; kind; priority 1 to 255, greater first; period; capacities in N, D1, D2.
--- Period 1 to 1,000,000 ticks, capacity 0 to the period, all whole ticks. These bounds are compared
--- in microseconds."
-abbrev pub ServerBounded : ℕ → ℕ → ServerLine → Type 0
-ServerBounded rows t s =
-    All
-    ((rows < 32)
-    ∷ Within 0 15 (s .partition)
-    ∷ Within 1 255 (s .priority)
-    ∷ Within t (1000000 * t) (s .period .0)
-    ∷ (s .capacity .n .0 ≤ s .period .0)
-    ∷ (s .capacity .d1 .0 ≤ s .period .0)
-    ∷ (s .capacity .d2 .0 ≤ s .period .0)
-    ∷ [])
+-- A line below the first and above all `task` lines. 2, "a number or row count out of bounds". "A
+-- 33rd server or 65th task is 2 at its line." "partition 0 to 15; kind; priority 1 to 255, greater
+-- first; period; capacities in N, D1, D2. Period 1 to 1,000,000 ticks, capacity 0 to the period,
+-- all whole ticks. These bounds are compared in microseconds." Of a capacity and the period "the
+-- later where two fields disagree". 3, "period or capacity not whole ticks".
+abbrev pub serverAsked : ℕ → Rows → List (List ℕ) → List {1} Asked
+serverAsked n a fs =
+    let s = serverSaid fs in
+    let t = a .tick .0 in
+    (no 1 at 0 unless ((2 ≤ n) × (length (a .tasks) ≡ 0)))
+    ∷ (no 1 at 0 unless (length fs ≡ 7))
+    ∷ (no 1 at 1 unless IsNumber (fieldAt fs 1))
+    ∷ (no 1 at 2 unless IsKind (fieldAt fs 2))
+    ∷ (no 1 at 3 unless IsNumber (fieldAt fs 3))
+    ∷ (no 1 at 4 unless IsNumber (fieldAt fs 4))
+    ∷ (no 1 at 5 unless IsNumber (fieldAt fs 5))
+    ∷ (no 1 at 6 unless IsNumber (fieldAt fs 6))
+    ∷ (no 1 at 7 unless IsNumber (fieldAt fs 7))
+    ∷ (no 2 at 0 unless (length (a .servers) < 32))
+    ∷ (no 2 at 1 unless Within 0 15 (s .partition))
+    ∷ (no 2 at 3 unless Within 1 255 (s .priority))
+    ∷ (no 2 at 4 unless Within t (1000000 * t) (s .period .0))
+    ∷ (no 2 at 5 unless (s .capacity .n .0 ≤ s .period .0))
+    ∷ (no 2 at 6 unless (s .capacity .d1 .0 ≤ s .period .0))
+    ∷ (no 2 at 7 unless (s .capacity .d2 .0 ≤ s .period .0))
+    ∷ (no 3 at 4 unless (s .period .0 % t ≡ 0))
+    ∷ (no 3 at 5 unless (s .capacity .n .0 % t ≡ 0))
+    ∷ (no 3 at 6 unless (s .capacity .d1 .0 % t ≡ 0))
+    ∷ (no 3 at 7 unless (s .capacity .d2 .0 % t ≡ 0))
+    ∷ []
 
--- "priority 1 to 255, greater first; level; limits for N, D1, D2, each rounded up to a tick, then 1
--- to 100,000"
-abbrev pub TaskBounded : ℕ → ℕ → TaskLine → Type 0
-TaskBounded rows t k =
-    All
-    ((rows < 64)
-    ∷ Within 1 255 (k .priority)
-    ∷ Within 1 100000 (up (k .limit .n .0) t)
-    ∷ Within 1 100000 (up (k .limit .d1 .0) t)
-    ∷ Within 1 100000 (up (k .limit .d2 .0) t)
-    ∷ [])
-
--- "`tick`: microseconds in a tick, 1 to 10,000."
-abbrev pub Bounded : Rows → Line → Type 0
-Bounded a (OfTick t) = Within 1 10000 (t .0)
-Bounded a (OfServer s) = ServerBounded (length (a .servers)) (a .tick .0) s
-Bounded a (OfTask k) = TaskBounded (length (a .tasks)) (a .tick .0) k
-Bounded a Malformed = Unit {0}
-
--- 3, "period or capacity not whole ticks"
-abbrev pub ServerWhole : ℕ → ServerLine → Type 0
-ServerWhole t s =
-    All
-    ((s .period .0 % t ≡ 0)
-    ∷ (s .capacity .n .0 % t ≡ 0)
-    ∷ (s .capacity .d1 .0 % t ≡ 0)
-    ∷ (s .capacity .d2 .0 % t ≡ 0)
-    ∷ [])
-
-abbrev pub Whole : Rows → Line → Type 0
-Whole a (OfTick t) = Unit {0}
-Whole a (OfServer s) = ServerWhole (a .tick .0) s
-Whole a (OfTask k) = Unit {0}
-Whole a Malformed = Unit {0}
-
--- 4, "server row absent (however great its number), wrong degraded server, falling limits": "The
--- degraded server is timed and of the home's partition; for a timed home it is the home."
+-- the kind and the partition of server row i
 abbrev pub kindAt : List Server → ℕ → Kind
 kindAt ss i = getD ss i noServer .kind
 
 abbrev pub partitionAt : List Server → ℕ → ℕ
 partitionAt ss i = getD ss i noServer .partition
 
+-- 41 to 45, "absent server row, degraded server of another partition, degraded server not timed,
+-- timed home with another degraded server, falling limits": "in the order given here, the first
+-- that applies being told, leftmost field concerned, the later where two fields disagree".
+--
+-- 41 to 44. "The degraded server is timed and of the home's partition; for a timed home it is the
+-- home."
+abbrev pub rowsAsked : List Server → ℕ → ℕ → List {1} Asked
+rowsAsked ss home degraded =
+    (no 41 at 1 unless (home < length ss))
+    ∷ (no 41 at 2 unless (degraded < length ss))
+    ∷ (no 42 at 2 unless (partitionAt ss degraded ≡ partitionAt ss home))
+    ∷ (no 43 at 2 unless (kindAt ss degraded ≡ Timed))
+    ∷ (no 44 at 2 unless (kindAt ss home ≡ Timed → degraded ≡ home))
+    ∷ []
+
+-- 45. "limits for N, D1, D2, each rounded up to a tick, then 1 to 100,000 and not falling"
+abbrev pub limitsAsked : ByMode → List {1} Asked
+limitsAsked limit =
+    (no 45 at 6 unless (limit .n .0 ≤ limit .d1 .0))
+    ∷ (no 45 at 7 unless (limit .d1 .0 ≤ limit .d2 .0))
+    ∷ []
+
+abbrev pub faultAsked : List Server → ℕ → ℕ → ByMode → List {1} Asked
+faultAsked ss home degraded limit = rowsAsked ss home degraded ++ limitsAsked limit
+
+-- the server rows that a task names are right: 45 is told only then
+abbrev pub RowsFit : List Server → ℕ → ℕ → Type 0
+RowsFit ss home degraded = AllHold (rowsAsked ss home degraded)
+
+-- a task has none of these faults: 13 asks it of a task's row by the same questions
 abbrev pub TaskFits : List Server → ℕ → ℕ → ByMode → Type 0
-TaskFits ss home degraded limit =
-    All
-    ((home < length ss)
-    ∷ (degraded < length ss)
-    ∷ (partitionAt ss degraded ≡ partitionAt ss home)
-    ∷ (kindAt ss degraded ≡ Timed)
-    ∷ (kindAt ss home ≡ Timed → degraded ≡ home)
-    ∷ (limit .n .0 ≤ limit .d1 .0)
-    ∷ (limit .d1 .0 ≤ limit .d2 .0)
-    ∷ [])
+TaskFits ss home degraded limit = AllHold (faultAsked ss home degraded limit)
 
-abbrev pub Fits : Rows → Line → Type 0
-Fits a (OfTick t) = Unit {0}
-Fits a (OfServer s) = Unit {0}
-Fits a (OfTask k) = TaskFits (a .servers) (k .home) (k .degraded) (limitsOf (a .tick .0) (k .limit))
-Fits a Malformed = Unit {0}
+-- A line below a `server` line. "priority 1 to 255, greater first; level; limits for N, D1, D2,
+-- each rounded up to a tick, then 1 to 100,000 and not falling."
+abbrev pub taskAsked : Rows → List (List ℕ) → List {1} Asked
+taskAsked a fs =
+    let k = taskSaid fs in
+    let limit = limitsOf (a .tick .0) (k .limit) in
+    (no 1 at 0 unless (1 ≤ length (a .servers)))
+    ∷ (no 1 at 0 unless (length fs ≡ 7))
+    ∷ (no 1 at 1 unless IsNumber (fieldAt fs 1))
+    ∷ (no 1 at 2 unless IsNumber (fieldAt fs 2))
+    ∷ (no 1 at 3 unless IsNumber (fieldAt fs 3))
+    ∷ (no 1 at 4 unless IsLevel (fieldAt fs 4))
+    ∷ (no 1 at 5 unless IsNumber (fieldAt fs 5))
+    ∷ (no 1 at 6 unless IsNumber (fieldAt fs 6))
+    ∷ (no 1 at 7 unless IsNumber (fieldAt fs 7))
+    ∷ (no 2 at 0 unless (length (a .tasks) < 64))
+    ∷ (no 2 at 3 unless Within 1 255 (k .priority))
+    ∷ (no 2 at 5 unless Within 1 100000 (limit .n .0))
+    ∷ (no 2 at 6 unless Within 1 100000 (limit .d1 .0))
+    ∷ (no 2 at 7 unless Within 1 100000 (limit .d2 .0))
+    ∷ faultAsked (a .servers) (k .home) (k .degraded) limit
 
--- "line by line 1, 2, 3, 4": the first that is broken
-pub record LineNumbers (n : ℕ) (a : Rows) (l : Line) (number : ℕ) : Type 0 where
-  pub no-1 : (number ≡ 1) ↔ (Placed n a l → ⊥)
-  pub no-2 : (number ≡ 2) ↔ (Placed n a l × (Bounded a l → ⊥))
-  pub no-3 : (number ≡ 3) ↔ (Placed n a l × Bounded a l × (Whole a l → ⊥))
-  pub no-4 : (number ≡ 4) ↔ (Placed n a l × Bounded a l × Whole a l × (Fits a l → ⊥))
-  pub none : (number ≡ 0) ↔ (Placed n a l × Bounded a l × Whole a l × Fits a l)
+-- by the leading word; an "unknown word" stands nowhere
+abbrev pub askedBy : Word → ℕ → Rows → List (List ℕ) → List {1} Asked
+askedBy ATick n a fs = tickAsked n fs
+askedBy AServer n a fs = serverAsked n a fs
+askedBy ATask n a fs = taskAsked a fs
+askedBy Unknown n a fs = (no 1 at 0 unless ⊥) ∷ []
 
+abbrev pub lineAsked : ℕ → Rows → List (List ℕ) → List {1} Asked
+lineAsked n a [] = (no 1 at 0 unless ⊥) ∷ []
+lineAsked n a (w ∷ fs) = askedBy (leading w) n a fs
+
+-- the number and the field that a line's standing gives
+abbrev pub Gives : Standing → ℕ → ℕ → Type 0
+Gives s number field = (standingNumber s ≡ number) × (standingField s ≡ field)
+
+-- "lines parted by tabs": each number and field exactly in its case
 abbrev pub EachLine : Type 0
-EachLine = (n : ℕ) (a : Rows) (l : Line) → LineNumbers n a l (standingNumber (standing n a l))
+EachLine =
+    (n : ℕ) (a : Rows) (line : List ℕ) (number field : ℕ) →
+    Gives (standing n a (readLine line)) number field ↔
+    Tells (lineAsked n a (split tab line)) number field
+
+-- 41 to 45 one by one, of the rows that a task names and of its limits
+pub record FaultNumbers (ss : List Server) (home degraded : ℕ) (limit : ByMode) (s : Standing) :
+    Type 0 where
+  -- "absent server row": of the home, else of the degraded server
+  pub no-41-home : Gives s 41 1 ↔ (length ss ≤ home)
+  pub no-41-degraded : Gives s 41 2 ↔ ((home < length ss) × (length ss ≤ degraded))
+  -- "degraded server of another partition"
+  pub no-42 : Gives s 42 2 ↔
+      ((home < length ss)
+      × (degraded < length ss)
+      × (partitionAt ss degraded ≡ partitionAt ss home → ⊥))
+  -- "degraded server not timed"
+  pub no-43 : Gives s 43 2 ↔
+      ((home < length ss)
+      × (degraded < length ss)
+      × (partitionAt ss degraded ≡ partitionAt ss home)
+      × (kindAt ss degraded ≡ EventKind))
+  -- "timed home with another degraded server"
+  pub no-44 : Gives s 44 2 ↔
+      ((home < length ss)
+      × (degraded < length ss)
+      × (partitionAt ss degraded ≡ partitionAt ss home)
+      × (kindAt ss degraded ≡ Timed)
+      × (kindAt ss home ≡ Timed)
+      × (degraded ≡ home → ⊥))
+  -- "falling limits": D1's below N's, else D2's below D1's, of rows that are right
+  pub no-45-d1 : Gives s 45 6 ↔ (RowsFit ss home degraded × (limit .d1 .0 < limit .n .0))
+  pub no-45-d2 : Gives s 45 7 ↔
+      (RowsFit ss home degraded × (limit .n .0 ≤ limit .d1 .0) × (limit .d2 .0 < limit .d1 .0))
+  -- none applies
+  pub none : Gives s 0 0 ↔ TaskFits ss home degraded limit
+
+abbrev pub EachFault : Type 0
+EachFault =
+    (ss : List Server) (home degraded : ℕ) (limit : ByMode) →
+    FaultNumbers ss home degraded limit (taskFault ss home degraded limit)
 
 -- A TABLE AND A STATE THAT ARE HANDED IN, number 13: "a table or state handed in breaks the rules
 -- of this page". The rules of 01, Tables, in ticks, of the rows in use.
@@ -634,7 +747,8 @@ AnswerLines =
     ∷ "?\tno\t1"
     ∷ [])
 
--- "A refused table prints only `table⇥no⇥number⇥line`, for 5 with the second line after it."
+-- "A refused table prints only `table⇥no⇥number⇥line`", and the field after it, "for 5 with the
+-- second line after it"
 abbrev pub Refuses : List ℕ → String → Type 0
 Refuses text answer = night text (lined ("T\t0" ∷ [])) ≡ lined (answer ∷ [])
 
@@ -645,15 +759,41 @@ abbrev pub TableLines : Type 0
 TableLines =
     let tick : List String = "tick\t1000" ∷ [] in
     All
-    (Refuses [] "table\tno\t1\t1"
-    ∷ Refuses (bytes "tick\t1000") "table\tno\t1\t1"
-    ∷ Refuses (lined tick) "table\tno\t1\t2"
-    ∷ Refuses (lined ("tick\t123456789012" ∷ [])) "table\tno\t1\t1"
-    ∷ Refuses (lined ("tick\t0" ∷ "server" ∷ [])) "table\tno\t2\t1"
-    ∷ Refuses (below tick "server\t0\tlate\t1\t2000\t1000\t1000\t1000") "table\tno\t1\t2"
-    ∷ Refuses (below tick "server\t0\ttimed\t1\t2500\t1000\t1000\t1000") "table\tno\t3\t2"
-    ∷ Refuses (below smallText "task\t1\t0\t2\tLO\t1000\t1000\t1000") "table\tno\t4\t4"
+    (Refuses [] "table\tno\t1\t1\t0"
+    ∷ Refuses (bytes "tick\t1000") "table\tno\t1\t1\t0"
+    ∷ Refuses (lined tick) "table\tno\t1\t2\t0"
+    ∷ Refuses (lined ("tick\t123456789012" ∷ [])) "table\tno\t1\t1\t1"
+    ∷ Refuses (lined ("tick\t0" ∷ "server" ∷ [])) "table\tno\t2\t1\t1"
+    ∷ Refuses (below tick "server\t0\tlate\t1\t2000\t1000\t1000\t1000") "table\tno\t1\t2\t2"
+    ∷ Refuses (below tick "server\t0\tlate\t1\t2000\t1000\t1000") "table\tno\t1\t2\t0"
+    ∷ Refuses (below tick "task\t0\tlate\t1\tLO\t1000\t1000\t1000") "table\tno\t1\t2\t0"
+    ∷ Refuses (below tick "server\t16\ttimed\t0\t2000\t1000\t1000\t1000") "table\tno\t2\t2\t1"
+    ∷ Refuses (below tick "server\t0\ttimed\t1\t2000\t1000\t3000\t1000") "table\tno\t2\t2\t6"
+    ∷ Refuses (below tick "server\t0\ttimed\t1\t2500\t1000\t1000\t1500") "table\tno\t3\t2\t4"
+    ∷ Refuses (below smallText "task\t1\t1\t2\tLO\t1000\t1000\t1000") "table\tno\t41\t4\t1"
+    ∷ Refuses (below smallText "task\t0\t1\t2\tLO\t1000\t1000\t1000") "table\tno\t41\t4\t2"
+    ∷ Refuses (below smallText "task\t0\t0\t2\tLO\t3000\t2000\t1000") "table\tno\t45\t4\t6"
+    ∷ Refuses (below smallText "task\t0\t0\t2\tLO\t1001\t2000\t1000") "table\tno\t45\t4\t7"
     ∷ Refuses (below smallText "task\t0\t0\t1\tMI\t1000\t1000\t1000") "table\tno\t5\t3\t4"
+    ∷ [])
+
+-- 42 to 44 want more servers: rows 0 and 1 are of partition 0, event and timed, rows 2 and 3 of
+-- partition 1, both timed
+abbrev pub fourServers : List String
+fourServers =
+    "tick\t1000"
+    ∷ "server\t0\tevent\t4\t2000\t1000\t1000\t1000"
+    ∷ "server\t0\ttimed\t3\t2000\t1000\t1000\t1000"
+    ∷ "server\t1\ttimed\t2\t2000\t1000\t1000\t1000"
+    ∷ "server\t1\ttimed\t1\t2000\t1000\t1000\t1000"
+    ∷ []
+
+abbrev pub DegradedLines : Type 0
+DegradedLines =
+    All
+    (Refuses (below fourServers "task\t2\t0\t1\tLO\t1000\t1000\t1000") "table\tno\t42\t6\t2"
+    ∷ Refuses (below fourServers "task\t0\t0\t1\tLO\t1000\t1000\t1000") "table\tno\t43\t6\t2"
+    ∷ Refuses (below fourServers "task\t2\t3\t1\tLO\t3000\t2000\t1000") "table\tno\t44\t6\t2"
     ∷ [])
 
 -- "the first pair of server rows with equal priority, smaller row first (pairs ordered by it, then

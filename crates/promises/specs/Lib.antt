@@ -7,3 +7,4 @@ pub mod FromTheText
 pub mod Dummies
 pub mod InUse
 pub mod Morning
+pub mod OldReading

@@ -2,7 +2,7 @@
 -- those above the next. Assumes nothing.
 pub mod Fields
 use mathlib.Core.Path.{_≡_, refl, sym, ap, _∙_}
-use mathlib.Core.Bool.{true, false}
+use mathlib.Core.Bool.{true}
 use mathlib.Core.List.{List, [], _∷_, _++_, append-assoc}
 use mathlib.Core.Logic.{inl, inr}
 use Prim.Native.Nat.{ℕ, suc, _+_, _-_, _≤_, _<_}
@@ -10,9 +10,9 @@ use native.Mathlib.Omega.{arith}
 use lib.Dec.{ltb, eqb}
 use lib.ListN.{length, set, replicate, length-append}
 use lib.Seq.{set-append-seam}
-use borrow.Author.Tests.{ltb-true, eqb-true, ne-eqb}
+use borrow.Author.Tests.{ltb-true, eqb-true, eq-eqb, ne-eqb, not-true}
 use Rattle.laws.specs.Choice.{every}
-use Rattle.laws.proofs.Choice.{clash, and-left, within-low, within-high, le-or-lt}
+use Rattle.laws.proofs.Choice.{clash, and-left, within-low, le-or-lt}
 use Rattle.units.specs.declared.Micros.{Micros}
 use Rattle.table.specs.declared.Server.{Server}
 use Rattle.table.specs.declared.Task.{Task}
@@ -21,6 +21,8 @@ use Rattle.table.specs.Rows.{Rows, noRows, noServer, noTask, rowsOf, tableOf, p
 use Rattle.table.specs.Rules.{tickKeeps}
 use Rattle.text.specs.declared.ServerLine.{ServerLine}
 use Rattle.text.specs.declared.TaskLine.{TaskLine}
+use Rattle.text.specs.declared.Word.{Word}
+use Rattle.text.specs.declared.Word.the-variants.{AServer, ATask}
 use Rattle.text.specs.declared.Line.{Line}
 use Rattle.text.specs.declared.Line.the-variants.{OfTick, OfServer, OfTask, Malformed}
 use Rattle.table.specs.declared.Standing.the-variants.{Kept}
@@ -28,7 +30,7 @@ use Rattle.text.specs.Standing.{isNil, placed, bounds, fault, serverOf, limitsO
 use Rattle.reader.specs.Inner.{Above, Grows}
 use Rattle.text.proofs.Bounds.{server-within, task-within}
 use Rattle.table.proofs.Rules.{rows-there}
-use Rattle.text.proofs.Standing.{Keeps, standing-keeps}
+use Rattle.text.proofs.Standing.{standing-keeps, no-form}
 use Rattle.text.proofs.RoundTrip.{table-rows}
 
 -- a row put where there is room
@@ -62,16 +64,22 @@ module _ (t : Table) (whole : t ≡ tableOf (rowsOf t)) where
   pub tasks-nil : isNil (rowsOf t .tasks) ≡ eqb (t .ntasks) 0
   tasks-nil = rw (nil-is (rowsOf t .tasks), tasks-count)
 
--- below the first line, and wherever a server stands above, the tick is known
+-- the `tick` line stands above wherever a `server` or a `task` line is placed, so the tick is known
 module _ (n : ℕ) (t : Table) (r : Above n t) where
-  pub tick-low : 1 < n → 0 < t .tick .0
+  tick-low : 1 < n → 0 < t .tick .0
   tick-low h = within-low 1 10000 (t .tick .0) (r .below h)
 
-  pub tick-high : 1 < n → t .tick .0 ≤ 10000
-  tick-high h = within-high 1 10000 (t .tick .0) (r .below h)
+  pub server-below : placed n (rowsOf t) AServer ≡ true → 1 < n
+  unfolding placed
+  server-below e = ltb-true 1 n (and-left (ltb 1 n) (isNil (rowsOf t .tasks)) e)
 
-  pub begun : (t .nservers ≡ 0 → ⊥) → 1 < n
-  begun h = elim (le-or-lt n 1) [ inl k ↦ absurd (h (r .first k)) | inr k ↦ k ]
+  pub task-below : placed n (rowsOf t) ATask ≡ true → 1 < n
+  unfolding placed
+  task-below e =
+      elim (le-or-lt n 1) [ inl k ↦ absurd (clash _ (none k) (not-true _ e)) | inr k ↦ k ]
+    where
+      none : n ≤ 1 → isNil (rowsOf t .servers) ≡ true
+      none k = nil-is (rowsOf t .servers) ∙ eq-eqb _ 0 (servers-count t (r .whole) ∙ r .first k)
 
 -- a line's row put into the table
 module _ (a : Rows) where
@@ -134,16 +142,9 @@ module _ (t : Table) (a : Rows) (whole : t ≡ tableOf a) where
   unfolding tableOf
   put-task k row h e = rw (e, whole) (task-put a k (rw whole at h))
 
-  pub put-none : t ≡ tableOf (grown a Malformed)
+  pub put-none : (word : Word) (field : ℕ) → t ≡ tableOf (grown a (Malformed word field))
   unfolding grown
-  put-none = whole
-
--- a task line is kept only below a server line
-under : (n : ℕ) (t : Table) (k : TaskLine) → Above n t → Keeps n (rowsOf t) (OfTask k) → 1 < n
-unfolding fault
-under n t k r p =
-    let h = rows-there (rowsOf t .servers) (k .home) (k .degraded) (limitsOf (t .tick .0) (k .limit)) (p .fits) in
-    begun n t r (λ z. omega (arith, h .0, servers-count t (r .whole)))
+  put-none word field = whole
 
 -- a line that is kept has a row with room
 pub grows : (n : ℕ) (t : Table) (l : Line) → Above n t → standing n (rowsOf t) l ≡ Kept → Grows t l
@@ -151,18 +152,18 @@ unfolding placed bounds fault
 grows n t (OfTick u) r e = r .whole
 grows n t (OfServer s) r e =
     let p = standing-keeps n (rowsOf t) (OfServer s) e in
-    let h = ltb-true 1 n (and-left (ltb 1 n) (isNil (rowsOf t .tasks)) (p .stands)) in
+    let h = server-below n t r (p .stands) in
     (r .whole, tick-low n t r h, rw (servers-count t (r .whole)) at (p .bounded))
 grows n t (OfTask k) r e =
     let p = standing-keeps n (rowsOf t) (OfTask k) e in
     let h = rows-there (rowsOf t .servers) (k .home) (k .degraded) (limitsOf (t .tick .0) (k .limit)) (p .fits) in (
       r .whole,
-      tick-low n t r (under n t k r p),
+      tick-low n t r (task-below n t r (p .stands)),
       rw (tasks-count t (r .whole)) at (p .bounded),
       omega (arith, h .0, servers-count t (r .whole), r .servers),
       omega (arith, h .1, servers-count t (r .whole), r .servers),
     )
-grows n t Malformed r e = r .whole
+grows n t (Malformed word field) r e = r .whole
 
 -- and the table with it stands before the next line
 above-rows : (n : ℕ) (a : Rows) → length (a .servers) ≤ 32 → length (a .tasks) ≤ 64 →
@@ -189,7 +190,7 @@ above-next n t (OfTick u) r e =
     (λ h. and-left (tickKeeps (u .0)) true (p .bounded))
 above-next n t (OfServer s) r e =
     let p = standing-keeps n (rowsOf t) (OfServer s) e in
-    let h = ltb-true 1 n (and-left (ltb 1 n) (isNil (rowsOf t .tasks)) (p .stands)) in
+    let h = server-below n t r (p .stands) in
     let w = server-within (length (rowsOf t .servers)) (t .tick .0) s (p .bounded) in
     above-rows
     (n + 1)
@@ -200,7 +201,7 @@ above-next n t (OfServer s) r e =
     (λ g. r .below h)
 above-next n t (OfTask k) r e =
     let p = standing-keeps n (rowsOf t) (OfTask k) e in
-    let h = under n t k r p in
+    let h = task-below n t r (p .stands) in
     let w = task-within (length (rowsOf t .tasks)) (t .tick .0) k (tick-low n t r h) (p .bounded) in
     above-rows
     (n + 1)
@@ -209,4 +210,5 @@ above-next n t (OfTask k) r e =
     (omega (arith, w .room, length-append (rowsOf t .tasks) (taskOf (t .tick .0) k ∷ [])))
     (λ g. absurd (omega arith))
     (λ g. r .below h)
-above-next n t Malformed r e = absurd (clash false (standing-keeps n (rowsOf t) Malformed e .stands) refl)
+above-next n t (Malformed word field) r e =
+    absurd (no-form n (rowsOf t) word field (standing-keeps n (rowsOf t) (Malformed word field) e))

@@ -1,5 +1,5 @@
--- A line, told from the one pass over its fields: they have the form exactly if nothing is wrong,
--- and what they say is then told by their numbers. Assumes nothing.
+-- A line, told from the one pass over its fields: the first that is wrong, and where none is what
+-- their numbers say. Assumes nothing.
 use mathlib.Core.Path.{_≡_, refl, sym, ap, _∙_}
 use mathlib.Core.Bool.{Bool, true, false}
 use mathlib.Core.List.{List, [], _∷_}
@@ -7,21 +7,24 @@ use Prim.Native.Nat.{ℕ, _+_, _-_, _≤_, _<_}
 use native.Mathlib.Omega.{arith}
 use lib.ListN.{length, getD, take, drop, length-drop}
 use lib.Seq.{take-all}
-use borrow.Author.Tests.{not-true, not-false}
+use Rattle.laws.specs.declared.Found.{Found}
+use Rattle.laws.specs.declared.Found.the-variants.{At, Nothing}
 use Rattle.laws.specs.Choice.{if_then_else_}
-use Rattle.laws.specs.Search.{isFound}
+use Rattle.laws.specs.Search.{firstFailed}
 use Rattle.decimal.specs.Lines.{tab, split, same}
-use Rattle.decimal.proofs.Lines.{Finds, cut-at, last-at}
+use Rattle.decimal.proofs.Lines.{split-some, Finds, cut-at, last-at}
 use Rattle.table.specs.declared.Kind.{Kind}
 use Rattle.table.specs.declared.Level.{Level}
+use Rattle.text.specs.declared.Word.{Word}
+use Rattle.text.specs.declared.Word.the-variants.{ATick, AServer, ATask, Unknown}
 use Rattle.text.specs.declared.Line.{Line}
 use Rattle.text.specs.declared.Line.the-variants.{OfTick, OfServer, OfTask, Malformed}
-use Rattle.text.specs.Words.{timedWord, miWord, hiWord, kindOf, levelOf}
-use Rattle.text.specs.Line.{aKind, aLevel, Form, tickForm, serverForm, taskForm, has, microsAt, serverSaid, taskSaid, formed, lineOf, readLine}
+use Rattle.text.specs.Words.{tickWord, serverWord, taskWord, timedWord, miWord, hiWord, kindOf, levelOf}
+use Rattle.text.specs.Line.{aNumber, aKind, aLevel, Form, tickForm, serverForm, taskForm, formTests, microsAt, serverSaid, taskSaid, leading, wordOf, saidUnless, formed, lineBy, lineOf, readLine}
 use Rattle.text.proofs.Lines.{no-fields}
 use Rattle.reader.specs.declared.fields.Fields.{Fields}
 use Rattle.reader.specs.Inner.Fields.{valueOf, kindAt, levelAt, noFields, passed}
-use Rattle.reader.proofs.Inner.Fields.{pass-has, has-value}
+use Rattle.reader.proofs.Inner.Fields.{pass-wrong, pass-values}
 
 -- a word by its place
 kind-said : (f : List ℕ) → kindAt (valueOf aKind f) ≡ kindOf f
@@ -34,32 +37,50 @@ kind-said f = go (same f timedWord)
 level-said : (f : List ℕ) → levelAt (valueOf aLevel f) ≡ levelOf f
 level-said f = go (same f hiWord) (same f miWord)
   where
-    go : (a b : Bool) → levelAt (if a then 2 else if b then 1 else 0) ≡ (if a then Level.HI else if b then Level.MI else Level.LO)
+    go : (a b : Bool) →
+        levelAt (if a then 2 else if b then 1 else 0) ≡
+        (if a then Level.HI else if b then Level.MI else Level.LO)
     go true b = refl
     go false true = refl
     go false false = refl
 
--- whether fields that were read have the form
-abbrev pub ReadAs : Form → List (List ℕ) → Fields → Type 0
-ReadAs form fs r = r ≡ passed (form .least) (form .fields) 0 noFields fs
+-- the bytes after the leading word, read as a form asks
+abbrev pub ReadAs : Form → List ℕ → Fields → Type 0
+ReadAs form rest r = r ≡ passed (form .least) (form .fields) 0 noFields (split tab rest)
 
-module _ (form : Form) (fs : List (List ℕ)) (r : Fields) (some : 0 < length fs) (read : ReadAs form fs r) where
-  pub form-not : (said : Line) → isFound (r .wrong) ≡ true → Malformed ≡ formed form fs said
-  form-not said w =
-      let e : has form fs ≡ false = not-true (has form fs) (sym (pass-has form fs some) ∙ ap (λ (x : Fields). isFound (x .wrong)) (sym read) ∙ w) in
-      rw e
+module _ (form : Form) (rest : List ℕ) (r : Fields) (read : ReadAs form rest r) where
+  first-wrong : (w : Found) → r .wrong ≡ w → firstFailed (formTests form (split tab rest)) ≡ w
+  first-wrong w e =
+      sym (pass-wrong form (split tab rest) (split-some tab rest))
+      ∙ ap (λ (x : Fields). x .wrong) (sym read)
+      ∙ e
 
-  pub form-has : isFound (r .wrong) ≡ false → has form fs ≡ true
-  form-has w = not-false (has form fs) (sym (pass-has form fs some) ∙ ap (λ (x : Fields). isFound (x .wrong)) (sym read) ∙ w)
+  pub form-not : (said : Line) (field : ℕ) → r .wrong ≡ At field →
+      Malformed (wordOf said) field ≡ formed form (split tab rest) said
+  form-not said field e = ap (λ x. saidUnless x said) (sym (first-wrong (At field) e))
 
--- and what they say
-module _ (fs : List (List ℕ)) (r : Fields) where
-  pub tick-read : ReadAs tickForm fs r → has tickForm fs ≡ true →
-      OfTick (record { 0 = getD (r .values) 0 0 }) ≡ formed tickForm fs (OfTick (microsAt fs 1))
+  module _ (none : r .wrong ≡ Nothing) where
+    form-has : (said : Line) → said ≡ formed form (split tab rest) said
+    form-has said = ap (λ x. saidUnless x said) (sym (first-wrong Nothing none))
+
+    value-read : length (form .fields) ≤ 7 → (i : ℕ) → i < form .least →
+        getD (r .values) i 0 ≡ valueOf (getD (form .fields) i aNumber) (getD (split tab rest) i [])
+    value-read l i h =
+        ap (λ (x : Fields). getD (x .values) i 0) read
+        ∙ pass-values form (split tab rest) (first-wrong Nothing none) l i h
+
+-- and what it says where no field is wrong
+module _ (rest : List ℕ) (r : Fields) where
+  pub tick-read : ReadAs tickForm rest r → r .wrong ≡ Nothing →
+      OfTick (record { 0 = getD (r .values) 0 0 }) ≡
+      formed tickForm (split tab rest) (OfTick (microsAt (split tab rest) 1))
   unfolding tickForm
-  tick-read e h = rw (h, e, has-value tickForm fs h (omega arith) 0 (omega arith))
+  tick-read e w =
+      rw (value-read tickForm rest r e w (omega arith) 0 (omega arith))
+      (form-has tickForm rest r e w (OfTick (microsAt (split tab rest) 1)))
 
-  pub server-read : (kind : Kind) → kind ≡ kindAt (getD (r .values) 1 0) → ReadAs serverForm fs r → has serverForm fs ≡ true →
+  pub server-read : (kind : Kind) → kind ≡ kindAt (getD (r .values) 1 0) →
+      ReadAs serverForm rest r → r .wrong ≡ Nothing →
       OfServer (record {
         partition = getD (r .values) 0 0;
         kind = kind;
@@ -70,14 +91,12 @@ module _ (fs : List (List ℕ)) (r : Fields) where
           d1 = record { 0 = getD (r .values) 5 0 };
           d2 = record { 0 = getD (r .values) 6 0 };
         };
-      }) ≡ formed serverForm fs (OfServer (serverSaid fs))
+      }) ≡ formed serverForm (split tab rest) (OfServer (serverSaid (split tab rest)))
   unfolding serverForm
-  server-read kind k e h =
-      let v = has-value serverForm fs h (omega arith) in
+  server-read kind k e w =
+      let v = value-read serverForm rest r e w (omega arith) in
       rw (
-        h,
         k,
-        e,
         v 0 (omega arith),
         v 1 (omega arith),
         v 2 (omega arith),
@@ -85,10 +104,12 @@ module _ (fs : List (List ℕ)) (r : Fields) where
         v 4 (omega arith),
         v 5 (omega arith),
         v 6 (omega arith),
-        kind-said (getD fs 1 []),
+        kind-said (getD (split tab rest) 1 []),
       )
+      (form-has serverForm rest r e w (OfServer (serverSaid (split tab rest))))
 
-  pub task-read : (level : Level) → level ≡ levelAt (getD (r .values) 3 0) → ReadAs taskForm fs r → has taskForm fs ≡ true →
+  pub task-read : (level : Level) → level ≡ levelAt (getD (r .values) 3 0) →
+      ReadAs taskForm rest r → r .wrong ≡ Nothing →
       OfTask (record {
         home = getD (r .values) 0 0;
         degraded = getD (r .values) 1 0;
@@ -99,14 +120,12 @@ module _ (fs : List (List ℕ)) (r : Fields) where
           d1 = record { 0 = getD (r .values) 5 0 };
           d2 = record { 0 = getD (r .values) 6 0 };
         };
-      }) ≡ formed taskForm fs (OfTask (taskSaid fs))
+      }) ≡ formed taskForm (split tab rest) (OfTask (taskSaid (split tab rest)))
   unfolding taskForm
-  task-read level k e h =
-      let v = has-value taskForm fs h (omega arith) in
+  task-read level k e w =
+      let v = value-read taskForm rest r e w (omega arith) in
       rw (
-        h,
         k,
-        e,
         v 0 (omega arith),
         v 1 (omega arith),
         v 2 (omega arith),
@@ -114,32 +133,35 @@ module _ (fs : List (List ℕ)) (r : Fields) where
         v 4 (omega arith),
         v 5 (omega arith),
         v 6 (omega arith),
-        level-said (getD fs 3 []),
+        level-said (getD (split tab rest) 3 []),
       )
+      (form-has taskForm rest r e w (OfTask (taskSaid (split tab rest))))
 
 -- the leading word
-module _ (w : List ℕ) (fs : List (List ℕ)) where
-  pub word-tick : same w (tickForm .word) ≡ true → formed tickForm fs (OfTick (microsAt fs 1)) ≡ lineOf (w ∷ fs)
-  unfolding lineOf
+module _ (w : List ℕ) where
+  pub word-tick : same w tickWord ≡ true → ATick ≡ leading w
   word-tick e = rw e
 
-  module _ (not-tick : same w (tickForm .word) ≡ false) where
-    pub word-server : same w (serverForm .word) ≡ true → formed serverForm fs (OfServer (serverSaid fs)) ≡ lineOf (w ∷ fs)
-    unfolding lineOf
+  module _ (not-tick : same w tickWord ≡ false) where
+    pub word-server : same w serverWord ≡ true → AServer ≡ leading w
     word-server e = rw (not-tick, e)
 
-    module _ (not-server : same w (serverForm .word) ≡ false) where
-      pub word-task : same w (taskForm .word) ≡ true → formed taskForm fs (OfTask (taskSaid fs)) ≡ lineOf (w ∷ fs)
-      unfolding lineOf
+    module _ (not-server : same w serverWord ≡ false) where
+      pub word-task : same w taskWord ≡ true → ATask ≡ leading w
       word-task e = rw (not-tick, not-server, e)
 
-      pub word-other : same w (taskForm .word) ≡ false → Malformed ≡ lineOf (w ∷ fs)
-      unfolding lineOf
+      pub word-other : same w taskWord ≡ false → Unknown ≡ leading w
       word-other e = rw (not-tick, not-server, e)
+
+-- which tells the form that the fields after it must have
+pub line-led : (w : List ℕ) (fs : List (List ℕ)) (word : Word) → word ≡ leading w →
+    lineBy word fs ≡ lineOf (w ∷ fs)
+unfolding lineOf
+line-led w fs word e = ap (λ (x : Word). lineBy x fs) e
 
 -- a line, by where its leading word ends
 module _ (l : List ℕ) (e : ℕ) (finds : Finds tab l 0 e) where
-  pub line-alone : length l ≤ e → Malformed ≡ readLine l
+  pub line-alone : length l ≤ e → Malformed (leading l) 0 ≡ readLine l
   unfolding readLine
   line-alone h = sym (ap lineOf (last-at tab l 0 e finds (omega arith) h) ∙ no-fields l)
 

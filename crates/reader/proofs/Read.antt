@@ -36,7 +36,7 @@ pub pair-below : (m n : ℕ) (q : ℕ → ℕ) (i j : ℕ) → m ≤ n → first
 pair-below m n q i j h e = let w = pair-found m q i j e in omega (arith, w .ordered, w .below)
 
 -- the end: without a task a line is missing; else servers, then tasks
-pub ended-none : (n : ℕ) (a : Rows) → isNil (a .tasks) ≡ true → refused Malformed n ≡ ended n a
+pub ended-none : (n : ℕ) (a : Rows) → isNil (a .tasks) ≡ true → refused Malformed n 0 ≡ ended n a
 unfolding ended
 ended-none n a e = rw e
 
@@ -60,7 +60,7 @@ module _ (n : ℕ) (a : Rows) (some : isNil (a .tasks) ≡ false) where
         rw (some, e, f, r) (ap (λ (x : Table). record { answer = Taken; table = x }) w)
 
 -- the text as a whole
-pub read-long : (text : List ℕ) → 16384 < length text → refused OutOfBounds 0 ≡ read text
+pub read-long : (text : List ℕ) → 16384 < length text → refused OutOfBounds 0 0 ≡ read text
 unfolding read
 read-long text h = rw (lt-leb (length text) 16384 h)
 
@@ -72,13 +72,14 @@ read-short text h = rw (le-leb (length text) 16384 h)
 pub starts : (t : Table) → t ≡ tableOf noRows → Above 1 t
 starts t e = subst (Above 1) (sym e) above-first
 
-pub starts-from : (t : Table) (ls : List (List ℕ)) → t ≡ tableOf noRows → readFrom 1 noRows ls ≡ readFrom 1 (rowsOf t) ls
+pub starts-from : (t : Table) (ls : List (List ℕ)) → t ≡ tableOf noRows →
+    readFrom 1 noRows ls ≡ readFrom 1 (rowsOf t) ls
 starts-from t ls e = ap (λ x. readFrom 1 x ls) (sym (ap rowsOf e ∙ table-rows noRows))
 
 -- line n begins at `from`, and the search for its line feed answers e
 module _ (n : ℕ) (a : Rows) (text : List ℕ) (from e : ℕ) (found : Finds lineFeed text from e) where
   pub from-unclosed : length text ≤ e → from < length text →
-      refused Malformed n ≡ readFrom n a (split lineFeed (drop from text))
+      refused Malformed n 0 ≡ readFrom n a (split lineFeed (drop from text))
   unfolding readFrom
   from-unclosed h k =
       rw (
@@ -101,9 +102,10 @@ module _ (n : ℕ) (a : Rows) (text : List ℕ) (from e : ℕ) (found : Finds li
         q,
       )
 
-  pub from-broken : (l : Line) (why : Refusal) → e < length text → l ≡ readLine (take (e - from) (drop from text)) →
-      standing n a l ≡ Broken why → refused why n ≡ readFrom n a (split lineFeed (drop from text))
-  from-broken l why h q j = rw (j) at (from-closed l h q)
+  pub from-broken : (l : Line) (why : Refusal) (field : ℕ) → e < length text →
+      l ≡ readLine (take (e - from) (drop from text)) → standing n a l ≡ Broken why field →
+      refused why n field ≡ readFrom n a (split lineFeed (drop from text))
+  from-broken l why field h q j = rw j at (from-closed l h q)
 
   pub from-kept : (l : Line) (t : Table) → e < length text → l ≡ readLine (take (e - from) (drop from text)) →
       standing n a l ≡ Kept → t ≡ tableOf (grown a l) →

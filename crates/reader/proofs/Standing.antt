@@ -1,54 +1,66 @@
 -- How a line stands, by the counts of the rows above it, and what the bounds mean for its row.
 -- Assumes nothing.
 use mathlib.Core.Path.{_≡_, refl}
-use mathlib.Core.Bool.{Bool, true, false, _&&_}
+use mathlib.Core.Bool.{true, false}
 use Prim.Native.Nat.{ℕ, _*_, _≤_}
 use native.Mathlib.Omega.{arith}
-use lib.Dec.{eqb}
-use Rattle.laws.specs.Choice.{unless_say_else_, every}
+use Rattle.laws.specs.Choice.{every}
+use Rattle.laws.specs.Search.{least, firstFailed}
 use Rattle.laws.specs.RoundUp.{up}
 use Rattle.laws.proofs.Choice.{within-high, every-at}
 use Rattle.units.specs.declared.Micros.{Micros}
-use Rattle.table.specs.declared.Refusal.the-variants.{Malformed, OutOfBounds}
+use Rattle.table.specs.declared.Refusal.the-variants.{Malformed}
+use Rattle.table.specs.declared.Standing.the-variants.{Broken}
 use Rattle.table.specs.declared.Table.{Table}
 use Rattle.table.specs.Rows.{Rows, rowsOf, tableOf}
-use Rattle.table.specs.Rules.{tickKeeps, taskKeeps}
+use Rattle.table.specs.Rules.{taskKeeps}
 use Rattle.text.specs.declared.ServerLine.{ServerLine}
 use Rattle.text.specs.declared.TaskLine.{TaskLine}
+use Rattle.text.specs.declared.Word.{Word}
+use Rattle.text.specs.declared.Word.the-variants.{ATick, AServer, ATask, Unknown}
+use Rattle.text.specs.declared.Line.{Line}
 use Rattle.text.specs.declared.Line.the-variants.{OfTick, OfServer, OfTask, Malformed as MalformedLine}
-use Rattle.table.specs.declared.Standing.the-variants.{Kept, Broken}
+use Rattle.text.specs.Line.{wordOf}
 use Rattle.text.specs.Standing.{placed, serverBounds, bounds, wholes, taskOf, fault, standing}
-use Rattle.reader.specs.Inner.{FewTicks, tickStanding, serverStanding, taskStanding}
+use Rattle.reader.specs.Inner.{FewTicks, placedBy, tickStanding, serverStanding, taskStanding}
 use Rattle.reader.proofs.Inner.{nil-is, servers-count, tasks-count}
 use Rattle.text.proofs.Bounds.{server-within}
 
 -- what is asked of the rows above is how many there are
-pub tick-stands : (n : ℕ) (a : Rows) (u : Micros) → tickStanding n u ≡ standing n a (OfTick u)
-unfolding standing placed bounds wholes fault every
-tick-stands n a u = go (eqb n 1) (tickKeeps (u .0))
-  where
-    go : (p b : Bool) →
-        (unless p say Broken Malformed else unless b say Broken OutOfBounds else Kept) ≡
-        (unless p say Broken Malformed else unless b && true say Broken OutOfBounds else Kept)
-    go false b = refl
-    go true true = refl
-    go true false = refl
-
 module _ (n : ℕ) (t : Table) (whole : t ≡ tableOf (rowsOf t)) where
-  pub server-stands : (s : ServerLine) →
-      serverStanding n (t .tick .0) (t .nservers) (t .ntasks) s ≡ standing n (rowsOf t) (OfServer s)
-  unfolding standing placed bounds wholes fault
-  server-stands s = rw (nil-is (rowsOf t .tasks), tasks-count t whole, servers-count t whole)
+  pub placed-by : (word : Word) →
+      placedBy n (t .nservers) (t .ntasks) word ≡ placed n (rowsOf t) word
+  unfolding placed
+  placed-by ATick = refl
+  placed-by AServer = rw (nil-is (rowsOf t .tasks), tasks-count t whole)
+  placed-by ATask = rw (nil-is (rowsOf t .servers), servers-count t whole)
+  placed-by Unknown = refl
 
-  pub task-stands : (k : TaskLine) →
+  pub server-stands : (s : ServerLine) → placed n (rowsOf t) AServer ≡ true →
+      serverStanding (t .tick .0) (t .nservers) s ≡ standing n (rowsOf t) (OfServer s)
+  unfolding standing bounds wholes fault
+  server-stands s e = rw (e, servers-count t whole)
+
+  pub task-stands : (k : TaskLine) → placed n (rowsOf t) ATask ≡ true →
       taskStanding (t .tick .0) (t .servers) (t .nservers) (t .ntasks) k
       ≡ standing n (rowsOf t) (OfTask k)
-  unfolding standing placed bounds wholes fault every
-  task-stands k = rw (nil-is (rowsOf t .servers), servers-count t whole, tasks-count t whole)
+  unfolding standing bounds wholes fault firstFailed least
+  task-stands k e = rw (e, tasks-count t whole)
 
-pub none-stands : (n : ℕ) (a : Rows) → Broken Malformed ≡ standing n a MalformedLine
-unfolding standing placed
-none-stands n a = refl
+pub tick-stands : (n : ℕ) (a : Rows) (u : Micros) → placed n a ATick ≡ true →
+    tickStanding u ≡ standing n a (OfTick u)
+unfolding standing bounds wholes fault firstFailed least
+tick-stands n a u e = rw e
+
+pub misplaced-stands : (n : ℕ) (a : Rows) (l : Line) → placed n a (wordOf l) ≡ false →
+    Broken Malformed 0 ≡ standing n a l
+unfolding standing
+misplaced-stands n a l e = rw e
+
+pub malformed-stands : (n : ℕ) (a : Rows) (word : Word) (field : ℕ) → placed n a word ≡ true →
+    Broken Malformed field ≡ standing n a (MalformedLine word field)
+unfolding standing
+malformed-stands n a word field e = rw e
 
 -- what the bounds say of the numbers of a row, in ticks
 pub record ServerFits (t : ℕ) (s : ServerLine) : Type 0 where

@@ -5,11 +5,11 @@
 use decimal::Number;
 use decimal::TAB;
 use laws::Found;
+use table::THE_LINE;
 ghost use mathlib.Core.Path.{_≡_};
 ghost use mathlib.Core.List.{map};
 ghost use Prim.Native.Nat.{_≤_, _<_};
 ghost use lib.ListN.{length};
-ghost use Rattle.laws.specs.Search.{isFound};
 ghost use Rattle.decimal.specs.Lines.{tab, split};
 ghost use Rattle.text.specs.Line.{aKind, aLevel};
 ghost use Rattle.reader.specs.Inner.Fields.{expectedOf, readField, firstOf, noFields, noted, counted, passed};
@@ -99,7 +99,7 @@ fn count(f: Fields, n: usize, least: usize) -> Fields
 {
     if n < least {
         return Fields {
-            wrong: Found::At(0),
+            wrong: Found::At(THE_LINE),
             ..f
         };
     }
@@ -125,16 +125,7 @@ pub(crate) fn read_fields(line: &[u8], shape: &[u8], least: usize) -> Fields
         at = e + 1;
     }
     Fields {
-        wrong: Found::At(0),
+        wrong: Found::At(THE_LINE),
         ..f
-    }
-}
-
-pub(crate) fn is_wrong(w: Found) -> bool
-    ensures { λ r. ⌜ r ≡ isFound w ⌝ }
-{
-    match w {
-        Found::At(_) => true,
-        Found::Nothing => false,
     }
 }

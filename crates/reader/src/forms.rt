@@ -4,18 +4,21 @@
 
 use crate::fields;
 use decimal::TAB;
+use laws::Found;
 use table::Kind;
 use table::Level;
+use table::THE_LINE;
 use text::Line;
 use text::ServerLine;
 use text::TaskLine;
 use text::Times;
+use text::Word;
 use units::Micros;
 ghost use mathlib.Core.Path.{_≡_};
 ghost use mathlib.Core.List.{_∷_};
 ghost use Rattle.decimal.specs.Lines.{tab, split};
 ghost use Rattle.text.specs.declared.Line.the-variants.{OfTick, OfServer, OfTask};
-ghost use Rattle.text.specs.Line.{tickForm, serverForm, taskForm, microsAt, serverSaid, taskSaid, formed, lineOf, readLine};
+ghost use Rattle.text.specs.Line.{tickForm, serverForm, taskForm, microsAt, serverSaid, taskSaid, formed, leading, lineOf, readLine};
 ghost use Rattle.reader.specs.Inner.Fields.{kindAt, levelAt};
 
 fn kind_at(v: u64) -> Kind
@@ -44,8 +47,8 @@ fn tick_line(rest: &[u8]) -> Line
 {
     let f = fields::read_fields(rest, b"n", 1);
     let wrong = f.wrong;
-    if fields::is_wrong(wrong) {
-        return Line::Malformed;
+    if let Found::At(field) = wrong {
+        return Line::Malformed(Word::ATick, field);
     }
     let v = f.values;
     Line::OfTick(Micros(v[0]))
@@ -56,8 +59,8 @@ fn server_line(rest: &[u8]) -> Line
 {
     let f = fields::read_fields(rest, b"nknnnnn", 7);
     let wrong = f.wrong;
-    if fields::is_wrong(wrong) {
-        return Line::Malformed;
+    if let Found::At(field) = wrong {
+        return Line::Malformed(Word::AServer, field);
     }
     let v = f.values;
     let kind = kind_at(v[1]);
@@ -80,8 +83,8 @@ fn task_line(rest: &[u8]) -> Line
 {
     let f = fields::read_fields(rest, b"nnnlnnn", 7);
     let wrong = f.wrong;
-    if fields::is_wrong(wrong) {
-        return Line::Malformed;
+    if let Found::At(field) = wrong {
+        return Line::Malformed(Word::ATask, field);
     }
     let v = f.values;
     let level = level_at(v[3]);
@@ -99,30 +102,42 @@ fn task_line(rest: &[u8]) -> Line
     })
 }
 
+fn leading_word(w: &[u8]) -> Word
+    ensures { λ r. ⌜ r ≡ leading (now (w .entry)) ⌝ }
+{
+    if decimal::is_same(w, b"tick") {
+        return Word::ATick;
+    }
+    if decimal::is_same(w, b"server") {
+        return Word::AServer;
+    }
+    if decimal::is_same(w, b"task") {
+        return Word::ATask;
+    }
+    Word::Unknown
+}
+
 // The leading word is looked at once; the fields after it are then read as the form of such a line
 // asks.
 fn formed_line(word: &[u8], rest: &[u8]) -> Line
     ensures { λ r. ⌜ r ≡ lineOf (now (word .entry) ∷ split tab (now (rest .entry))) ⌝ }
 {
-    if decimal::is_same(word, b"tick") {
-        return tick_line(rest);
+    match leading_word(word) {
+        Word::ATick => tick_line(rest),
+        Word::AServer => server_line(rest),
+        Word::ATask => task_line(rest),
+        Word::Unknown => Line::Malformed(Word::Unknown, THE_LINE),
     }
-    if decimal::is_same(word, b"server") {
-        return server_line(rest);
-    }
-    if decimal::is_same(word, b"task") {
-        return task_line(rest);
-    }
-    Line::Malformed
 }
 
-// A word alone has no form.
+// A word alone has no form: a field is missing.
 pub(crate) fn read_line(l: &[u8]) -> Line
     ensures { λ r. ⌜ r ≡ readLine (now (l .entry)) ⌝ }
 {
     let e = bytes::scan::find(l, 0, l.len(), TAB);
     if e == l.len() {
-        return Line::Malformed;
+        let word = leading_word(l);
+        return Line::Malformed(word, THE_LINE);
     }
     formed_line(&l[..e], &l[e + 1..])
 }

@@ -9,6 +9,7 @@ mod rules;
 use table::Pair;
 use table::Refusal;
 use table::Standing;
+use table::THE_LINE;
 use table::Table;
 use text::LONGEST_TEXT;
 use text::Read;
@@ -18,12 +19,12 @@ ghost use Rattle.table.specs.Rows.{rowsOf};
 ghost use Rattle.text.specs.Read.{refused, equal, ended, read, shown};
 ghost use Rattle.reader.specs.Inner.{Above};
 
-fn refuse(why: Refusal, line: usize) -> Read
-    ensures { λ r. ⌜ r ≡ shown (refused why line) ⌝ }
+fn refuse(why: Refusal, line: usize, field: usize) -> Read
+    ensures { λ r. ⌜ r ≡ shown (refused why line field) ⌝ }
 {
     let none = table::no_table();
     Read {
-        answer: Reading::Refused { why, line },
+        answer: Reading::Refused { why, line, field },
         table: none,
     }
 }
@@ -47,7 +48,7 @@ fn end(n: usize, t: Table) -> Read
     let servers = t.nservers;
     let tasks = t.ntasks;
     if tasks == 0 {
-        return refuse(Refusal::Malformed, n);
+        return refuse(Refusal::Malformed, n, THE_LINE);
     }
     let ss = t.servers;
     let p = table::equal_servers(ss, servers);
@@ -72,7 +73,7 @@ pub fn read_table(text: &[u8]) -> Read
     ensures { λ r. ⌜ r ≡ shown (read (now (text .entry))) ⌝ }
 {
     if LONGEST_TEXT < text.len() {
-        return refuse(Refusal::OutOfBounds, 0);
+        return refuse(Refusal::OutOfBounds, 0, THE_LINE);
     }
     let mut t = table::no_table();
     let mut at = 0;
@@ -81,14 +82,14 @@ pub fn read_table(text: &[u8]) -> Read
         let e = bytes::scan::find(text, at, text.len(), decimal::LINE_FEED);
         if e == text.len() {
             if at < e {
-                return refuse(Refusal::Malformed, n);
+                return refuse(Refusal::Malformed, n, THE_LINE);
             }
             return end(n, t);
         }
         let l = forms::read_line(&text[at..e]);
         let j = rules::line_standing(n, t, l);
-        if let Standing::Broken(why) = j {
-            return refuse(why, n);
+        if let Standing::Broken(why, field) = j {
+            return refuse(why, n, field);
         }
         t = rows::grow(t, l);
         at = e + 1;

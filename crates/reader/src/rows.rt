@@ -114,6 +114,6 @@ pub(crate) fn grow(mut t: Table, l: Line) -> Table
             t.ntasks = i + 1;
             t
         }
-        Line::Malformed => t,
+        Line::Malformed(_, _) => t,
     }
 }

@@ -1,40 +1,47 @@
-// Whether a line keeps the rules where it stands. (01, Numbers for no: "line by line 1, 2, 3, 4".)
-// The rules are lists of tests in crate text, specs/Standing.antt, judged in 64 bits as the line
-// has them: only a line that keeps them becomes a row.
+// Whether a line keeps the rules where it stands, or which it breaks and at which field. (01,
+// Numbers for no: "line by line"; 02, No. 2.) The rules are lists of tests in crate text,
+// specs/Standing.antt, judged in 64 bits as the line has them: only a line that keeps them becomes
+// a row. The place of a test is its field, 0 being the line itself; of some fields nothing is
+// asked.
 
 use crate::rows;
+use laws::Found;
 use table::Refusal;
 use table::SERVERS;
 use table::Server;
 use table::Standing;
 use table::TASKS;
+use table::THE_LINE;
 use table::Table;
 use text::Line;
 use text::ServerLine;
 use text::TaskLine;
+use text::Word;
 use units::Micros;
 ghost use mathlib.Core.Path.{_≡_};
 ghost use mathlib.Core.Bool.{true};
 ghost use Prim.Native.Nat.{_≤_, _<_};
-ghost use Rattle.laws.specs.Choice.{every};
+ghost use Rattle.laws.specs.Search.{firstFailed};
 ghost use Rattle.table.specs.Rows.{rowsOf};
 ghost use Rattle.table.specs.Rules.{tickKeeps};
+ghost use Rattle.text.specs.Line.{wordOf};
 ghost use Rattle.text.specs.Standing.{serverBounds, serverWhole, taskBounds, standing};
-ghost use Rattle.reader.specs.Inner.{Above, tickStanding, serverStanding, taskStanding};
+ghost use Rattle.reader.specs.Inner.{Above, placedBy, tickStanding, serverStanding, taskStanding};
 
-fn server_bounds(rows: usize, tick: Micros, s: ServerLine) -> bool
+fn server_bounds(rows: usize, tick: Micros, s: ServerLine) -> Found
     requires { ⌜ tick .0 ≤ 10000 ⌝ }
-    ensures { λ r. ⌜ r ≡ every (serverBounds rows (tick .0) s) ⌝ }
+    ensures { λ r. ⌜ r ≡ firstFailed (serverBounds rows (tick .0) s) ⌝ }
 {
     let partition = laws::is_within(0, 15, s.partition);
     let priority = laws::is_within(1, 255, s.priority);
     let period = s.period.0;
     let lasts = laws::is_within(tick.0, 1000000 * tick.0, period);
     let c = s.capacity;
-    laws::all_of(
+    laws::first_failed(
         &[
             rows < SERVERS,
             partition,
+            true,
             priority,
             lasts,
             c.n.0 <= period,
@@ -44,14 +51,18 @@ fn server_bounds(rows: usize, tick: Micros, s: ServerLine) -> bool
     )
 }
 
-fn server_whole(tick: Micros, s: ServerLine) -> bool
+fn server_whole(tick: Micros, s: ServerLine) -> Found
     requires { ⌜ 0 < tick .0 ⌝ }
-    ensures { λ r. ⌜ r ≡ every (serverWhole (tick .0) s) ⌝ }
+    ensures { λ r. ⌜ r ≡ firstFailed (serverWhole (tick .0) s) ⌝ }
 {
     let period = s.period.0;
     let c = s.capacity;
-    laws::all_of(
+    laws::first_failed(
         &[
+            true,
+            true,
+            true,
+            true,
             period % tick.0 == 0,
             c.n.0 % tick.0 == 0,
             c.d1.0 % tick.0 == 0,
@@ -62,9 +73,9 @@ fn server_whole(tick: Micros, s: ServerLine) -> bool
 
 // A limit is rounded up and then 1 to 100,000 ticks exactly if it is 1 microsecond to 100,000
 // ticks.
-fn task_bounds(rows: usize, tick: Micros, k: TaskLine) -> bool
+fn task_bounds(rows: usize, tick: Micros, k: TaskLine) -> Found
     requires { ⌜ (0 < tick .0) × (tick .0 ≤ 10000) ⌝ }
-    ensures { λ r. ⌜ r ≡ every (taskBounds rows (tick .0) k) ⌝ }
+    ensures { λ r. ⌜ r ≡ firstFailed (taskBounds rows (tick .0) k) ⌝ }
 {
     let priority = laws::is_within(1, 255, k.priority);
     let limit = k.limit;
@@ -72,37 +83,56 @@ fn task_bounds(rows: usize, tick: Micros, k: TaskLine) -> bool
     let n = laws::is_within(1, most, limit.n.0);
     let d1 = laws::is_within(1, most, limit.d1.0);
     let d2 = laws::is_within(1, most, limit.d2.0);
-    laws::all_of(&[rows < TASKS, priority, n, d1, d2])
+    laws::first_failed(&[rows < TASKS, true, true, priority, true, n, d1, d2])
 }
 
-// What each kind of line asks of the rows above is how many there are, and a task line the servers.
-fn tick_standing(n: usize, u: Micros) -> Standing
-    ensures { λ r. ⌜ r ≡ tickStanding n u ⌝ }
+// Where a line may stand, by how many rows there are above it.
+fn is_placed(n: usize, servers: usize, tasks: usize, word: Word) -> bool
+    ensures { λ r. ⌜ r ≡ placedBy n servers tasks word ⌝ }
 {
-    if n != 1 {
-        return Standing::Broken(Refusal::Malformed);
+    match word {
+        Word::ATick => n == 1,
+        Word::AServer => {
+            if n <= 1 {
+                return false;
+            }
+            tasks == 0
+        }
+        Word::ATask => servers != 0,
+        Word::Unknown => false,
     }
+}
+
+fn word_of(l: Line) -> Word
+    ensures { λ r. ⌜ r ≡ wordOf l ⌝ }
+{
+    match l {
+        Line::OfTick(_) => Word::ATick,
+        Line::OfServer(_) => Word::AServer,
+        Line::OfTask(_) => Word::ATask,
+        Line::Malformed(word, _) => word,
+    }
+}
+
+// Lines of each kind, in their place.
+fn tick_standing(u: Micros) -> Standing
+    ensures { λ r. ⌜ r ≡ tickStanding u ⌝ }
+{
     if !laws::is_within(1, 10000, u.0) {
-        return Standing::Broken(Refusal::OutOfBounds);
+        return Standing::Broken(Refusal::OutOfBounds, 1);
     }
     Standing::Kept
 }
 
-fn server_standing(n: usize, tick: Micros, servers: usize, tasks: usize, s: ServerLine) -> Standing
-    requires { ⌜ (1 < n → tickKeeps (tick .0) ≡ true) ⌝ }
-    ensures { λ r. ⌜ r ≡ serverStanding n (tick .0) servers tasks s ⌝ }
+fn server_standing(tick: Micros, servers: usize, s: ServerLine) -> Standing
+    requires { ⌜ tickKeeps (tick .0) ≡ true ⌝ }
+    ensures { λ r. ⌜ r ≡ serverStanding (tick .0) servers s ⌝ }
 {
-    if n <= 1 {
-        return Standing::Broken(Refusal::Malformed);
+    if let Found::At(field) = server_bounds(servers, tick, s) {
+        return Standing::Broken(Refusal::OutOfBounds, field);
     }
-    if tasks != 0 {
-        return Standing::Broken(Refusal::Malformed);
-    }
-    if !server_bounds(servers, tick, s) {
-        return Standing::Broken(Refusal::OutOfBounds);
-    }
-    if !server_whole(tick, s) {
-        return Standing::Broken(Refusal::NotWhole);
+    if let Found::At(field) = server_whole(tick, s) {
+        return Standing::Broken(Refusal::NotWhole, field);
     }
     Standing::Kept
 }
@@ -114,32 +144,34 @@ fn task_standing(
     tasks: usize,
     k: TaskLine,
 ) -> Standing
-    requires { ⌜ (0 < count → tickKeeps (tick .0) ≡ true) ⌝ }
+    requires { ⌜ tickKeeps (tick .0) ≡ true ⌝ }
     ensures { λ r. ⌜ r ≡ taskStanding (tick .0) ss count tasks k ⌝ }
 {
-    if count == 0 {
-        return Standing::Broken(Refusal::Malformed);
-    }
-    if !task_bounds(tasks, tick, k) {
-        return Standing::Broken(Refusal::OutOfBounds);
+    if let Found::At(field) = task_bounds(tasks, tick, k) {
+        return Standing::Broken(Refusal::OutOfBounds, field);
     }
     let x = k.limit;
     let limit = rows::limits(x, tick);
     table::task_fault(ss, count, k.home, k.degraded, limit)
 }
 
-// n is the line's number, t holds the rows above it.
+// n is the line's number, t holds the rows above it. A misplaced line is told as the line itself,
+// whatever its fields hold.
 pub(crate) fn line_standing(n: usize, t: Table, l: Line) -> Standing
     requires { ⌜ Above n t ⌝ }
     ensures { λ r. ⌜ r ≡ standing n (rowsOf t) l ⌝ }
 {
+    let word = word_of(l);
+    if !is_placed(n, t.nservers, t.ntasks, word) {
+        return Standing::Broken(Refusal::Malformed, THE_LINE);
+    }
     match l {
-        Line::OfTick(u) => tick_standing(n, u),
-        Line::OfServer(s) => server_standing(n, t.tick, t.nservers, t.ntasks, s),
+        Line::OfTick(u) => tick_standing(u),
+        Line::OfServer(s) => server_standing(t.tick, t.nservers, s),
         Line::OfTask(k) => {
             let ss = t.servers;
             task_standing(t.tick, ss, t.nservers, t.ntasks, k)
         }
-        Line::Malformed => Standing::Broken(Refusal::Malformed),
+        Line::Malformed(_, field) => Standing::Broken(Refusal::Malformed, field),
     }
 }

@@ -387,5 +387,5 @@ pub refused-report : (table events : List ℕ) (a : Reading) → shown (read tab
     report table events ≡ closed (printed (refusedFields a) ∷ [])
 unfolding report morningLines
 refused-report table events Taken e n = absurd (n refl)
-refused-report table events (Refused why line) e n = rw e
+refused-report table events (Refused why line field) e n = rw e
 refused-report table events (Equal first second) e n = rw e

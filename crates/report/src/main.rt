@@ -177,7 +177,8 @@ fn main() {
         table in TABLE. For each server: row, ticks charged, empty turns, and the longest\n\
         row of ticks in which it had a waiting job and was not charged. For each task:\n\
         row, jobs finished, cut, discarded and still waiting. For each mode: its ticks.\n\
-        A table that is refused prints one line: table, no, number, line (for 5 both).\n\
+        A table that is refused prints one line: table, no, number, line, field\n\
+        (0 is the line itself; for 5 both lines and no field).\n\
         `-` stands for standard input. README.md has the forms and the numbers.\n";
     if files::asked_for_help(help) {
         return;

@@ -24,7 +24,8 @@ fn text_of(t: Table, room: &mut [u8]) -> usize
 fn main() {
     let help = b"rewrite TABLE\n\
         Prints the table in the file TABLE as it is held, written back.\n\
-        A table that is refused prints one line: table, no, number, line (for 5 both).\n\
+        A table that is refused prints one line: table, no, number, line, field\n\
+        (0 is the line itself; for 5 both lines and no field).\n\
         `-` stands for standard input. README.md has the form and the numbers.\n";
     if files::asked_for_help(help) {
         return;

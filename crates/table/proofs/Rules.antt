@@ -5,7 +5,7 @@ use mathlib.Core.Bool.{Bool, true, false, not, _&&_, _||_}
 use mathlib.Core.List.{List}
 use Prim.Native.Nat.{ℕ, min, _≤_, _<_}
 use native.Mathlib.Omega.{arith}
-use lib.Dec.{leb, ltb, eqb}
+use lib.Dec.{leb, eqb}
 use lib.ListN.{length, getD, take, length-take}
 use lib.Seq.{length-take-le, getD-take}
 use borrow.Author.Tests.{leb-true, ltb-true, lt-ltb, le-ltb, eqb-true}
@@ -25,7 +25,7 @@ use Rattle.table.specs.declared.Server.{Server}
 use Rattle.table.specs.declared.Task.{Task}
 use Rattle.table.specs.declared.Table.{Table}
 use Rattle.table.specs.Rows.{Rows, rowsOf, noServer, noTask, serverAt, taskAt, inMode, isTimed, priorityAt, periodAt, capacityAt, taskPriorityAt, limitAt}
-use Rattle.table.specs.Rules.{serverKeeps, taskKeeps, rowsThere, samePartition, degradedTimed, timedAtHome, rising, taskFault, taskStands, differ, keeps, tableKeeps}
+use Rattle.table.specs.Rules.{serverKeeps, taskKeeps, rowThere, samePartition, degradedTimed, timedAtHome, taskFault, taskStands, differ, keeps, tableKeeps}
 use Rattle.table.specs.Inner.{Sized, rowsFault}
 use Rattle.table.proofs.Inner.{all-in-use, column-apart}
 
@@ -104,46 +104,51 @@ task-priority : (k : Task) → every (taskKeeps k) ≡ true → within 1 255 (k 
 unfolding taskKeeps
 task-priority k e = every-at (taskKeeps k) e 0
 
--- 4, the first that applies: what breaks nothing passes each test
-unless-kept : (b : Bool) (why : Refusal) (r : Standing) → isKept (unless b say Broken why else r) ≡ true → (b ≡ true) × (isKept r ≡ true)
-unless-kept true why r e = (refl, e)
-unless-kept false why r e = absurd (clash false e refl)
+-- 41 to 45, the first that applies: what breaks nothing passes each test
+unless-kept : (b : Bool) (why : Refusal) (field : ℕ) (r : Standing) → isKept (unless b say Broken why field else r) ≡ true → (b ≡ true) × (isKept r ≡ true)
+unless-kept true why field r e = (refl, e)
+unless-kept false why field r e = absurd (clash false e refl)
 
 kept-is : (s : Standing) → isKept s ≡ true → s ≡ Kept
 kept-is Kept e = refl
-kept-is (Broken why) e = absurd (clash false e refl)
+kept-is (Broken why field) e = absurd (clash false e refl)
 
 pub record Faultless (ss : List Server) (home degraded : ℕ) (limit : ByMode) : Type 0 where
-  pub there : rowsThere ss home degraded ≡ true
+  pub home-there : rowThere ss home ≡ true
+  pub degraded-there : rowThere ss degraded ≡ true
   pub partition : samePartition ss home degraded ≡ true
   pub timed : degradedTimed ss degraded ≡ true
   pub stays : timedAtHome ss home degraded ≡ true
-  pub rises : rising limit ≡ true
+  pub rises : leb (limit .n .0) (limit .d1 .0) ≡ true
+  pub rises-on : leb (limit .d1 .0) (limit .d2 .0) ≡ true
 
 module _ (ss : List Server) (home degraded : ℕ) (limit : ByMode) where
   pub faultless : isKept (taskFault ss home degraded limit) ≡ true → Faultless ss home degraded limit
   unfolding taskFault
   faultless e =
-      let a = unless-kept (rowsThere ss home degraded) AbsentRow _ e in
-      let b = unless-kept (samePartition ss home degraded) OtherPartition _ (a .1) in
-      let c = unless-kept (degradedTimed ss degraded) NotTimed _ (b .1) in
-      let d = unless-kept (timedAtHome ss home degraded) OtherServer _ (c .1) in
-      let f = unless-kept (rising limit) Falling _ (d .1) in
-      record { there = a .0; partition = b .0; timed = c .0; stays = d .0; rises = f .0 }
-
-  pub no-fault : Faultless ss home degraded limit → Kept ≡ taskFault ss home degraded limit
-  unfolding taskFault
-  no-fault f = rw (f .there, f .partition, f .timed, f .stays, f .rises)
+      let h = unless-kept (rowThere ss home) AbsentRow 1 _ e in
+      let a = unless-kept (rowThere ss degraded) AbsentRow 2 _ (h .1) in
+      let b = unless-kept (samePartition ss home degraded) OtherPartition 2 _ (a .1) in
+      let c = unless-kept (degradedTimed ss degraded) NotTimed 2 _ (b .1) in
+      let d = unless-kept (timedAtHome ss home degraded) OtherServer 2 _ (c .1) in
+      let f = unless-kept (leb (limit .n .0) (limit .d1 .0)) Falling 6 _ (d .1) in
+      let g = unless-kept (leb (limit .d1 .0) (limit .d2 .0)) Falling 7 _ (f .1) in
+      record {
+        home-there = h .0;
+        degraded-there = a .0;
+        partition = b .0;
+        timed = c .0;
+        stays = d .0;
+        rises = f .0;
+        rises-on = g .0;
+      }
 
 -- the rows that a task names are there
-both-there : (n h d : ℕ) → (ltb h n && ltb d n) ≡ true → (h < n) × (d < n)
-both-there n h d e =
-    (ltb-true h n (and-left (ltb h n) (ltb d n) e), ltb-true d n (and-right (ltb h n) (ltb d n) e))
-
 pub rows-there : (ss : List Server) (home degraded : ℕ) (limit : ByMode) → taskFault ss home degraded limit ≡ Kept →
     (home < length ss) × (degraded < length ss)
 rows-there ss home degraded limit e =
-    both-there (length ss) home degraded (faultless ss home degraded limit (ap isKept e) .there)
+    let f = faultless ss home degraded limit (ap isKept e) in
+    (ltb-true home (length ss) (f .home-there), ltb-true degraded (length ss) (f .degraded-there))
 
 -- a task's row keeps the rules exactly if its own numbers do and it has no fault
 pub stands : (ss : List Server) (k : Task) → every (taskKeeps k) ≡ true → taskFault ss (k .home) (k .degraded) (k .limit) ≡ Kept →
@@ -163,14 +168,14 @@ stands-keeps ss k e =
 same-row : (ss : List Server) (n i : ℕ) → i < length (take n ss) → getD (take n ss) i noServer ≡ getD ss i noServer
 same-row ss n i h = getD-take n ss i noServer (omega (arith, length-take n ss))
 
--- 4, by the rows that are there, m of the list
+-- 41 to 45, by the rows that are there, m of the list
 module _ (ss : List Server) (n m home degraded : ℕ) (limit : ByMode) (e : m ≡ min n (length ss)) where
-  pub home-absent : m ≤ home → Broken AbsentRow ≡ taskFault (take n ss) home degraded limit
+  pub home-absent : m ≤ home → Broken AbsentRow 1 ≡ taskFault (take n ss) home degraded limit
   unfolding taskFault
   home-absent h = rw (le-ltb home (length (take n ss)) (omega (arith, length-take n ss)))
 
   pub degraded-absent : home < m → m ≤ degraded →
-      Broken AbsentRow ≡ taskFault (take n ss) home degraded limit
+      Broken AbsentRow 2 ≡ taskFault (take n ss) home degraded limit
   unfolding taskFault
   degraded-absent h k =
       rw (
@@ -200,7 +205,7 @@ task-rules t k l e =
     let x = taskAt t k in
     let y = stands-keeps (take n ss) x e in
     let f = faultless (take n ss) (x .home) (x .degraded) (x .limit) (ap isKept (y .1)) in
-    let r = both-there (length (take n ss)) (x .home) (x .degraded) (f .there) in
+    let r = rows-there (take n ss) (x .home) (x .degraded) (x .limit) (y .1) in
     let u = same-row ss n (x .home) (r .0) in
     let v = same-row ss n (x .degraded) (r .1) in
     let p = task-priority x (y .0) in
@@ -216,8 +221,8 @@ task-rules t k l e =
           (rw u at (f .stays));
       limit-low = limits-low x (y .0);
       limit-high = limits-high x (y .0);
-      rises = leb-true (z .n .0) (z .d1 .0) (and-left (leb (z .n .0) (z .d1 .0)) (leb (z .d1 .0) (z .d2 .0)) (f .rises));
-      rises-on = leb-true (z .d1 .0) (z .d2 .0) (and-right (leb (z .n .0) (z .d1 .0)) (leb (z .d1 .0) (z .d2 .0)) (f .rises));
+      rises = leb-true (z .n .0) (z .d1 .0) (f .rises);
+      rises-on = leb-true (z .d1 .0) (z .d2 .0) (f .rises-on);
     }
 
 -- the tests of a whole table, by place

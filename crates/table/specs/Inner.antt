@@ -5,7 +5,7 @@ use mathlib.Core.Path.{_≡_}
 use mathlib.Core.Bool.{Bool}
 use mathlib.Core.List.{List}
 use Prim.Native.Nat.{ℕ}
-use lib.Dec.{eqb}
+use lib.Dec.{leb, eqb}
 use lib.ListN.{length, getD, take}
 use Rattle.laws.specs.Choice.{unless_say_else_, every}
 use Rattle.laws.specs.Rows.{allBelow}
@@ -17,15 +17,16 @@ use Rattle.table.specs.declared.Refusal.the-variants.{OtherPartition, No
 use Rattle.table.specs.declared.Standing.{Standing}
 use Rattle.table.specs.declared.Standing.the-variants.{Kept, Broken}
 use Rattle.table.specs.Rows.{noServer, noTask, isTimed}
-use Rattle.table.specs.Rules.{serverKeeps, staysHome, rising, taskStands}
+use Rattle.table.specs.Rules.{serverKeeps, staysHome, taskStands}
 
 -- what `taskFault` asks of the limits and of the two rows that a task names, once both are there
 abbrev pub rowsFault : Server → Server → ℕ → ℕ → ByMode → Standing
 rowsFault h d home degraded limit =
-    unless eqb (d .partition) (h .partition) say Broken OtherPartition
-    else unless isTimed (d .kind) say Broken NotTimed
-    else unless staysHome (h .kind) home degraded say Broken OtherServer
-    else unless rising limit say Broken Falling
+    unless eqb (d .partition) (h .partition) say Broken OtherPartition 2
+    else unless isTimed (d .kind) say Broken NotTimed 2
+    else unless staysHome (h .kind) home degraded say Broken OtherServer 2
+    else unless leb (limit .n .0) (limit .d1 .0) say Broken Falling 6
+    else unless leb (limit .d1 .0) (limit .d2 .0) say Broken Falling 7
     else Kept
 
 -- the first n servers keep the rules of a row

@@ -1,5 +1,5 @@
--- 01, Numbers for no: the paper's number of each reason. The five reasons of 4 stand in the order
--- in which they are looked for.
+-- 01, Numbers for no: the paper's number of each reason. 02, No. 2: "4 goes; 41 to 45 stand in its
+-- place in the order given here".
 use mathlib.Core.Bool.{Bool, true, false}
 use Prim.Native.Nat.{ℕ}
 use Rattle.table.specs.declared.Refusal.{Refusal}
@@ -14,12 +14,16 @@ numberOf Malformed = 1
 numberOf OutOfBounds = 2
 -- period or capacity not whole ticks
 numberOf NotWhole = 3
--- server row absent, wrong degraded server, falling limits
-numberOf AbsentRow = 4
-numberOf OtherPartition = 4
-numberOf NotTimed = 4
-numberOf OtherServer = 4
-numberOf Falling = 4
+-- absent server row
+numberOf AbsentRow = 41
+-- degraded server of another partition
+numberOf OtherPartition = 42
+-- degraded server not timed
+numberOf NotTimed = 43
+-- timed home with another degraded server
+numberOf OtherServer = 44
+-- falling limits
+numberOf Falling = 45
 -- equal priorities
 numberOf EqualPriorities = 5
 -- no such task
@@ -39,11 +43,16 @@ numberOf RoomShort = 12
 -- a table or state handed in breaks the rules of this page
 numberOf Unsound = 13
 
--- The paper's number of a standing, 0 where the rules are kept.
+-- The paper's number of a standing, 0 where the rules are kept, and the field that is told with it:
+-- "counted from 1 after the leading word, or 0 for the line itself".
 abbrev pub standingNumber : Standing → ℕ
 standingNumber Kept = 0
-standingNumber (Broken why) = numberOf why
+standingNumber (Broken why field) = numberOf why
+
+abbrev pub standingField : Standing → ℕ
+standingField Kept = 0
+standingField (Broken why field) = field
 
 abbrev pub isKept : Standing → Bool
 isKept Kept = true
-isKept (Broken why) = false
+isKept (Broken why field) = false

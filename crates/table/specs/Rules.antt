@@ -21,31 +21,38 @@ use Rattle.table.specs.Rows.{Rows, rowsOf, noServer, noTask, isTimed}
 abbrev pub tickKeeps : ℕ → Bool
 tickKeeps = within 1 10000
 
+-- "priority 1 to 255, greater first", of servers and of tasks
+abbrev pub priorityKeeps : ℕ → Bool
+priorityKeeps = within 1 255
+
 -- "partition 0 to 15; kind; priority 1 to 255, greater first; period; capacities in N, D1, D2.
 -- Period 1 to 1,000,000 ticks, capacity 0 to the period"
 unfoldable pub serverKeeps : Server → List Bool
 serverKeeps s =
     within 0 15 (s .partition)
-    ∷ within 1 255 (s .priority)
+    ∷ priorityKeeps (s .priority)
     ∷ within 1 1000000 (s .period .0)
     ∷ leb (s .capacity .n .0) (s .period .0)
     ∷ leb (s .capacity .d1 .0) (s .period .0)
     ∷ leb (s .capacity .d2 .0) (s .period .0)
     ∷ []
 
--- "priority 1 to 255, greater first; level; limits for N, D1, D2, each rounded up to a tick, then 1
--- to 100,000"
+-- "limits for N, D1, D2, each rounded up to a tick, then 1 to 100,000"
+abbrev pub limitKeeps : ℕ → Bool
+limitKeeps = within 1 100000
+
+-- "priority 1 to 255, greater first; level; limits for N, D1, D2"
 unfoldable pub taskKeeps : Task → List Bool
 taskKeeps k =
-    within 1 255 (k .priority)
-    ∷ within 1 100000 (k .limit .n .0)
-    ∷ within 1 100000 (k .limit .d1 .0)
-    ∷ within 1 100000 (k .limit .d2 .0)
+    priorityKeeps (k .priority)
+    ∷ limitKeeps (k .limit .n .0)
+    ∷ limitKeeps (k .limit .d1 .0)
+    ∷ limitKeeps (k .limit .d2 .0)
     ∷ []
 
 -- "home server; degraded server": rows of the table
-abbrev pub rowsThere : List Server → ℕ → ℕ → Bool
-rowsThere ss home degraded = ltb home (length ss) && ltb degraded (length ss)
+abbrev pub rowThere : List Server → ℕ → Bool
+rowThere ss row = ltb row (length ss)
 
 -- "The degraded server is timed and of the home's partition; for a timed home it is the home."
 abbrev pub samePartition : List Server → ℕ → ℕ → Bool
@@ -60,19 +67,19 @@ staysHome kind home degraded = not (isTimed kind) || eqb degraded home
 abbrev pub timedAtHome : List Server → ℕ → ℕ → Bool
 timedAtHome ss home degraded = staysHome (getD ss home noServer .kind) home degraded
 
--- "and not falling"
-abbrev pub rising : ByMode → Bool
-rising x = leb (x .n .0) (x .d1 .0) && leb (x .d1 .0) (x .d2 .0)
-
--- 4, "server row absent (however great its number), wrong degraded server, falling limits": the
--- first that applies
+-- 02, No. 2: "absent server row, degraded server of another partition, degraded server not timed,
+-- timed home with another degraded server, falling limits"; "in the order given here, the first
+-- that applies being told, leftmost field concerned, the later where two fields disagree". The home
+-- is field 1, the degraded server 2, the limits "for N, D1, D2", "not falling", are 5, 6 and 7.
 unfoldable pub taskFault : List Server → ℕ → ℕ → ByMode → Standing
 taskFault ss home degraded limit =
-    unless rowsThere ss home degraded say Broken AbsentRow
-    else unless samePartition ss home degraded say Broken OtherPartition
-    else unless degradedTimed ss degraded say Broken NotTimed
-    else unless timedAtHome ss home degraded say Broken OtherServer
-    else unless rising limit say Broken Falling
+    unless rowThere ss home say Broken AbsentRow 1
+    else unless rowThere ss degraded say Broken AbsentRow 2
+    else unless samePartition ss home degraded say Broken OtherPartition 2
+    else unless degradedTimed ss degraded say Broken NotTimed 2
+    else unless timedAtHome ss home degraded say Broken OtherServer 2
+    else unless leb (limit .n .0) (limit .d1 .0) say Broken Falling 6
+    else unless leb (limit .d1 .0) (limit .d2 .0) say Broken Falling 7
     else Kept
 
 -- a task's row, beside the servers

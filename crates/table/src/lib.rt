@@ -9,7 +9,7 @@ ghost use Prim.Native.Nat.{_≤_, min};
 ghost use Rattle.laws.specs.Choice.{every};
 ghost use Rattle.table.specs.Refusals.{numberOf, isKept};
 ghost use Rattle.table.specs.Rows.{inMode, largest, isTimed, isLow, isD2, noTable};
-ghost use Rattle.table.specs.Rules.{serverKeeps, taskKeeps, taskFault, taskStands, staysHome, rising, tableKeeps};
+ghost use Rattle.table.specs.Rules.{serverKeeps, taskKeeps, taskFault, taskStands, staysHome, tableKeeps};
 ghost use Rattle.table.specs.Inner.{rowsFault, serversKeep, tasksKeep};
 ghost use Rattle.table.specs.Pairs.{isDiffer, equalServers, equalTasks};
 
@@ -96,11 +96,11 @@ pub fn number_of(why: Refusal) -> u64
         Refusal::Malformed => 1,
         Refusal::OutOfBounds => 2,
         Refusal::NotWhole => 3,
-        Refusal::AbsentRow => 4,
-        Refusal::OtherPartition => 4,
-        Refusal::NotTimed => 4,
-        Refusal::OtherServer => 4,
-        Refusal::Falling => 4,
+        Refusal::AbsentRow => 41,
+        Refusal::OtherPartition => 42,
+        Refusal::NotTimed => 43,
+        Refusal::OtherServer => 44,
+        Refusal::Falling => 45,
         Refusal::EqualPriorities => 5,
         Refusal::NoTask => 6,
         Refusal::LowInD2 => 7,
@@ -113,18 +113,30 @@ pub fn number_of(why: Refusal) -> u64
     }
 }
 
-// Whether a line or a row keeps the rules where it stands, or which it breaks.
+// Whether a line or a row keeps the rules where it stands, or which it breaks, and at which field:
+// they count from 1 after the leading word, and 0 is the line itself.
 pub enum Standing {
     Kept,
-    Broken(Refusal),
+    Broken(Refusal, usize),
 }
+
+pub const THE_LINE: usize = 0;
+
+// The fields of a task at which it may break a rule on the rows that it names and on its limits.
+const HOME: usize = 1;
+
+const DEGRADED: usize = 2;
+
+const LIMIT_D1: usize = 6;
+
+const LIMIT_D2: usize = 7;
 
 fn is_kept(s: Standing) -> bool
     ensures { λ r. ⌜ r ≡ isKept s ⌝ }
 {
     match s {
         Standing::Kept => true,
-        Standing::Broken(_) => false,
+        Standing::Broken(_, _) => false,
     }
 }
 
@@ -266,16 +278,6 @@ pub fn is_d2(m: Mode) -> bool
     }
 }
 
-// Whether limits do not fall from mode to mode.
-fn is_rising(x: ByMode) -> bool
-    ensures { λ r. ⌜ r ≡ rising x ⌝ }
-{
-    if x.d1.0 < x.n.0 {
-        return false;
-    }
-    x.d1.0 <= x.d2.0
-}
-
 // Whether a task of a timed home has it for its degraded server too; of an event home it may have
 // another.
 fn stays_home(kind: Kind, home: u64, degraded: u64) -> bool
@@ -327,18 +329,20 @@ fn rows_fault(h: Server, d: Server, home: u64, degraded: u64, limit: ByMode) -> 
     let kind = d.kind;
     let timed = is_timed(kind);
     let stays = stays_home(base, home, degraded);
-    let rises = is_rising(limit);
     if d.partition != h.partition {
-        return Standing::Broken(Refusal::OtherPartition);
+        return Standing::Broken(Refusal::OtherPartition, DEGRADED);
     }
     if !timed {
-        return Standing::Broken(Refusal::NotTimed);
+        return Standing::Broken(Refusal::NotTimed, DEGRADED);
     }
     if !stays {
-        return Standing::Broken(Refusal::OtherServer);
+        return Standing::Broken(Refusal::OtherServer, DEGRADED);
     }
-    if !rises {
-        return Standing::Broken(Refusal::Falling);
+    if limit.d1.0 < limit.n.0 {
+        return Standing::Broken(Refusal::Falling, LIMIT_D1);
+    }
+    if limit.d2.0 < limit.d1.0 {
+        return Standing::Broken(Refusal::Falling, LIMIT_D2);
     }
     Standing::Kept
 }
@@ -356,10 +360,10 @@ pub fn task_fault(
 {
     let n = in_use(count, SERVERS);
     if n as u64 <= home {
-        return Standing::Broken(Refusal::AbsentRow);
+        return Standing::Broken(Refusal::AbsentRow, HOME);
     }
     if n as u64 <= degraded {
-        return Standing::Broken(Refusal::AbsentRow);
+        return Standing::Broken(Refusal::AbsentRow, DEGRADED);
     }
     let h = ss[home as usize];
     let d = ss[degraded as usize];

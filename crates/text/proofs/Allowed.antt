@@ -12,6 +12,7 @@ use lib.ListN.{length, getD, length-append}
 use borrow.Author.Tests.{lt-ltb, leb-true, le-leb}
 use Rattle.laws.specs.Choice.{every, within, unless_say_else_}
 use Rattle.laws.specs.Rows.{allBelow}
+use Rattle.laws.specs.Search.{firstFailed}
 use Rattle.laws.proofs.Choice.{every-at, within-low, within-high, is-within}
 use Rattle.laws.proofs.Rows.{all-at, all-build}
 use Rattle.units.specs.declared.Micros.{Micros}
@@ -19,26 +20,25 @@ use Rattle.decimal.specs.Lines.{lineFeed, split}
 use Rattle.table.specs.declared.Server.{Server}
 use Rattle.table.specs.declared.Task.{Task}
 use Rattle.table.specs.Rows.{Rows, noRows, noServer, noTask}
-use Rattle.table.specs.Rules.{tickKeeps, serverKeeps, taskKeeps, taskFault, taskStands, differ, keeps}
+use Rattle.table.specs.Rules.{tickKeeps, priorityKeeps, limitKeeps, serverKeeps, taskFault, taskStands, differ, keeps}
 use Rattle.table.proofs.Rules.{rows-there, stands-keeps}
 use Rattle.table.specs.declared.Standing.the-variants.{Kept, Broken}
 use Rattle.table.specs.declared.Pair.{Pair}
 use Rattle.table.specs.declared.Pair.the-variants.{Equal as EqualRows, Differ}
 use Rattle.table.specs.declared.Refusal.{Refusal}
-use Rattle.table.specs.declared.Refusal.the-variants.{Malformed, OutOfBounds}
+use Rattle.table.specs.declared.Refusal.the-variants.{Malformed as MalformedWhy, OutOfBounds, NotWhole}
 use Rattle.table.specs.Pairs.{equalServers, equalTasks}
 use Rattle.table.proofs.Pairs.{differ-pair, pair-differ}
 use Rattle.table.specs.declared.Standing.{Standing}
 use Rattle.text.specs.declared.Line.{Line}
 use Rattle.text.specs.declared.Line.the-variants.{OfTick, OfServer, OfTask, Malformed}
-use Rattle.text.specs.Standing.{isNil, taskOf, placed, bounds, taskBounds, wholes, fault, standing, grown}
+use Rattle.text.specs.Standing.{isNil, anything, taskOf, placed, bounds, taskBounds, wholes, fault, tell_at_or_, standing, grown}
 use Rattle.text.specs.Allowed.{KeptFrom, grownBy, Allowed}
 use Rattle.text.specs.Write.{serverBack, taskBack, serverLines, taskLines, linesOf}
 use Rattle.text.proofs.Lines.{Writable}
 use Rattle.text.proofs.Ticks.{server-there, task-there, rounded}
 use Rattle.text.proofs.Bounds.{within-tick}
-use Rattle.text.proofs.Refused.{inOrder}
-use Rattle.text.proofs.Standing.{not-nil, standing-keeps, keeps-standing, server-bounded, server-whole, Good, stepped, stands-first, tick-line, tick-writable, is-nil}
+use Rattle.text.proofs.Standing.{not-nil, standing-keeps, keeps-standing, server-bounded, server-whole, task-bounded, Good, stepped, stands-first, tick-line, tick-writable, is-nil}
 use Rattle.text.specs.declared.Reading.the-variants.{Taken, Refused}
 use Rattle.text.specs.Line.{readLine}
 use Rattle.text.specs.Read.{ReadRows, taken, refused, pairSaid, compared, ended, lineSaid, readFrom, read}
@@ -56,10 +56,21 @@ rounded-standing n a (OfTask k) h =
     let t = a .tick .0 in
     ap
     (λ (x : Task).
-    inOrder (not (isNil (a .servers))) (every (ltb (length (a .tasks)) 64 ∷ taskKeeps x)) (every [])
-    (taskFault (a .servers) (x .home) (x .degraded) (x .limit)))
+    unless not (isNil (a .servers)) say Broken MalformedWhy 0
+    else tell OutOfBounds at firstFailed
+    (ltb (length (a .tasks)) 64
+    ∷ anything
+    ∷ anything
+    ∷ priorityKeeps (x .priority)
+    ∷ anything
+    ∷ limitKeeps (x .limit .n .0)
+    ∷ limitKeeps (x .limit .d1 .0)
+    ∷ limitKeeps (x .limit .d2 .0)
+    ∷ [])
+    or tell NotWhole at firstFailed []
+    or taskFault (a .servers) (x .home) (x .degraded) (x .limit))
     (task-there t h (taskOf t k))
-rounded-standing n a Malformed h = refl
+rounded-standing n a (Malformed word field) h = refl
 
 -- the lines after the `tick` line
 pub record Through (a : Rows) (ls : List Line) : Type 0 where
@@ -117,7 +128,7 @@ told (l ∷ ls) k h =
     go t (OfTick u) e k = told-tick u ls k
     go t (OfServer s) e k = let z : _≡_ {A = ℕ} 0 1 = cc in absurd (omega arith)
     go t (OfTask x) e k = let z : _≡_ {A = ℕ} 0 1 = cc in absurd (omega arith)
-    go t Malformed e k = let z : _≡_ {A = ℕ} 0 1 = cc in absurd (omega arith)
+    go t (Malformed word field) e k = let z : _≡_ {A = ℕ} 0 1 = cc in absurd (omega arith)
 
 -- Rows that keep the rules, by what is asked of them.
 pub record RowsKeep (a : Rows) : Type 0 where
@@ -195,6 +206,7 @@ server-taken n t ss s h l e =
     keeps-standing n (with t ss []) (OfServer (serverBack (t .0) s))
     (record {
       stands = rw (lt-ltb 1 n h);
+      formed = refl;
       bounded = server-bounded (length ss) (t .0) s l e;
       whole = server-whole (t .0) s;
       fits = refl;
@@ -203,13 +215,14 @@ server-taken n t ss s h l e =
 task-taken : (n : ℕ) (t : Micros) (ss : List Server) (ks : List Task) (k : Task) → 0 < t .0 → 0 < length ss →
     length ks < 64 →
     taskStands ss k ≡ true → standing n (with t ss ks) (OfTask (taskBack (t .0) k)) ≡ Kept
-unfolding placed bounds taskBounds wholes fault every
+unfolding placed bounds wholes fault every
 task-taken n t ss ks k p h l e =
     let y = stands-keeps ss k e in
     keeps-standing n (with t ss ks) (OfTask (taskBack (t .0) k))
     (record {
       stands = rw (not-nil ss h);
-      bounded = rw (lt-ltb (length ks) 64 l, task-there (t .0) p k) (y .0);
+      formed = refl;
+      bounded = task-bounded (length ks) (t .0) (taskBack (t .0) k) l (rw (task-there (t .0) p k) (y .0));
       whole = refl;
       fits = ap (λ (x : Task). taskFault ss (x .home) (x .degraded) (x .limit)) (task-there (t .0) p k) ∙ y .1;
     })
@@ -267,7 +280,7 @@ tick-taken : (t : Micros) → 1 ≤ t .0 → t .0 ≤ 10000 → standing 1 noRow
 unfolding placed wholes fault every
 tick-taken t l h =
     keeps-standing 1 noRows (OfTick t)
-    (record { stands = refl; bounded = within-tick noRows t l h; whole = refl; fits = refl })
+    (record { stands = refl; formed = refl; bounded = within-tick noRows t l h; whole = refl; fits = refl })
 
 pub lines-taken : (a : Rows) → RowsKeep a → KeptFrom 1 noRows (linesOf a)
 unfolding linesOf grown
@@ -288,13 +301,13 @@ lines-grown a k =
     tasks-grown t (a .servers) [] (a .tasks) (k .good .low)
 
 -- no answer but one is Taken
-not-refused : {A : Type 0} (why : Refusal) (n : ℕ) → Refused why n ≡ Taken → A
-not-refused why n e = let z : _≡_ {A = ℕ} 0 1 = cc in absurd (omega arith)
+not-refused : {A : Type 0} (why : Refusal) (n field : ℕ) → Refused why n field ≡ Taken → A
+not-refused why n field e = let z : _≡_ {A = ℕ} 0 1 = cc in absurd (omega arith)
 
-unless-taken : (b : Bool) (why : Refusal) (n : ℕ) (r : ReadRows) → (unless b say refused why n else r) .answer ≡ Taken →
+unless-taken : (b : Bool) (why : Refusal) (n : ℕ) (r : ReadRows) → (unless b say refused why n 0 else r) .answer ≡ Taken →
     (b ≡ true) × (r .answer ≡ Taken)
 unless-taken true why n r e = (refl, e)
-unless-taken false why n r e = not-refused why n e
+unless-taken false why n r e = not-refused why n 0 e
 
 pair-taken : (top : ℕ) (p : Pair) (r : ReadRows) → pairSaid top p r .answer ≡ Taken → (p ≡ Differ) × (r .answer ≡ Taken)
 pair-taken top (EqualRows i j) r e = let z : _≡_ {A = ℕ} 0 1 = cc in absurd (omega arith)
@@ -302,7 +315,7 @@ pair-taken top Differ r e = (refl, e)
 
 line-taken : (n : ℕ) (j : Standing) (r : ReadRows) → lineSaid n j r .answer ≡ Taken → (j ≡ Kept) × (r .answer ≡ Taken)
 line-taken n Kept r e = (refl, e)
-line-taken n (Broken why) r e = not-refused why n e
+line-taken n (Broken why field) r e = not-refused why n field e
 
 -- the end of the text
 some : {A : Type 0} (xs : List A) → not (isNil xs) ≡ true → 1 ≤ length xs
@@ -317,7 +330,7 @@ record Ended (a : Rows) : Type 0 where
 ended-taken : (n : ℕ) (a : Rows) → ended n a .answer ≡ Taken → Ended a
 unfolding ended compared
 ended-taken n a e =
-    let p = unless-taken (not (isNil (a .tasks))) Malformed n (compared a) e in
+    let p = unless-taken (not (isNil (a .tasks))) MalformedWhy n (compared a) e in
     let tasks = pairSaid (2 + length (a .servers)) (equalTasks (a .tasks)) (taken a) in
     let q = pair-taken 2 (equalServers (a .servers)) tasks (p .1) in
     let r = pair-taken (2 + length (a .servers)) (equalTasks (a .tasks)) (taken a) (q .1) in
@@ -350,9 +363,9 @@ record Ran (n : ℕ) (a : Rows) (ps : List (List ℕ)) : Type 0 where
 
 from-taken : (n : ℕ) (a : Rows) (ps : List (List ℕ)) → readFrom n a ps .answer ≡ Taken → Ran n a ps
 unfolding readFrom
-from-taken n a [] e = not-refused Malformed n e
+from-taken n a [] e = not-refused MalformedWhy n 0 e
 from-taken n a (l ∷ []) e =
-    let p = unless-taken (isNil l) Malformed n (ended n a) e in
+    let p = unless-taken (isNil l) MalformedWhy n (ended n a) e in
     record { lines = []; parts = rw (is-nil l (p .0)); kept = tt }
 from-taken n a (l ∷ (m ∷ ms)) e =
     let j = line-taken n (standing n a (readLine l)) (readFrom (n + 1) (grown a (readLine l)) (m ∷ ms)) e in

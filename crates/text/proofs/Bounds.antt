@@ -1,6 +1,7 @@
 -- 2, "a number or row count out of bounds", as inequalities. "These bounds are compared in
 -- microseconds", and a limit that is rounded up to a tick is from 1 to 100,000 ticks exactly if it
--- is from 1 microsecond to 100,000 ticks. Assumes nothing.
+-- is from 1 microsecond to 100,000 ticks. The place of a test is the field it is about. Assumes
+-- nothing.
 use mathlib.Core.Path.{_≡_, refl, sym, _∙_}
 use mathlib.Core.Bool.{Bool, true, false}
 use mathlib.Core.List.{List, [], _∷_}
@@ -15,7 +16,6 @@ use Rattle.laws.proofs.Choice.{and-true, every-at, within-low, within-high, is-
 use Rattle.laws.proofs.RoundUp.{up-le, le-up, lt-up}
 use Rattle.units.specs.declared.Micros.{Micros}
 use Rattle.table.specs.Rows.{Rows}
-use Rattle.table.specs.Rules.{taskKeeps}
 use Rattle.text.specs.declared.ServerLine.{ServerLine}
 use Rattle.text.specs.declared.TaskLine.{TaskLine}
 use Rattle.text.specs.declared.Line.the-variants.{OfTick}
@@ -36,12 +36,12 @@ all-hold (_also_ {b} {bs} e p) = and-true b (every bs) e (all-hold p)
 pub tick-within : (a : Rows) (u : Micros) → every (bounds a (OfTick u)) ≡ true → (1 ≤ u .0) × (u .0 ≤ 10000)
 unfolding bounds
 tick-within a u e =
-    let b = every-at (bounds a (OfTick u)) e 0 in
+    let b = every-at (bounds a (OfTick u)) e 1 in
     (within-low 1 10000 (u .0) b, within-high 1 10000 (u .0) b)
 
 pub within-tick : (a : Rows) (u : Micros) → 1 ≤ u .0 → u .0 ≤ 10000 → every (bounds a (OfTick u)) ≡ true
 unfolding bounds
-within-tick a u l h = all-hold (is-within 1 10000 (u .0) l h also none)
+within-tick a u l h = all-hold (refl also is-within 1 10000 (u .0) l h also none)
 
 pub tick-bounds-exactly : (a : Rows) (u : Micros) →
     (every (bounds a (OfTick u)) ≡ true) ↔ ((1 ≤ u .0) × (u .0 ≤ 10000))
@@ -66,13 +66,13 @@ server-within rows t s e =
     record {
       room = ltb-true rows 32 (b 0);
       partition = within-high 0 15 (s .partition) (b 1);
-      priority-low = within-low 1 255 (s .priority) (b 2);
-      priority-high = within-high 1 255 (s .priority) (b 2);
-      period-low = within-low t (1000000 * t) (s .period .0) (b 3);
-      period-high = within-high t (1000000 * t) (s .period .0) (b 3);
-      n = leb-true (s .capacity .n .0) (s .period .0) (b 4);
-      d1 = leb-true (s .capacity .d1 .0) (s .period .0) (b 5);
-      d2 = leb-true (s .capacity .d2 .0) (s .period .0) (b 6);
+      priority-low = within-low 1 255 (s .priority) (b 3);
+      priority-high = within-high 1 255 (s .priority) (b 3);
+      period-low = within-low t (1000000 * t) (s .period .0) (b 4);
+      period-high = within-high t (1000000 * t) (s .period .0) (b 4);
+      n = leb-true (s .capacity .n .0) (s .period .0) (b 5);
+      d1 = leb-true (s .capacity .d1 .0) (s .period .0) (b 6);
+      d2 = leb-true (s .capacity .d2 .0) (s .period .0) (b 7);
     }
 
 pub within-server : (rows t : ℕ) (s : ServerLine) → ServerWithin rows t s → every (serverBounds rows t s) ≡ true
@@ -81,6 +81,7 @@ within-server rows t s w =
     all-hold
     (lt-ltb rows 32 (w .room)
     also is-within 0 15 (s .partition) (omega arith) (w .partition)
+    also refl
     also is-within 1 255 (s .priority) (w .priority-low) (w .priority-high)
     also is-within t (1000000 * t) (s .period .0) (w .period-low) (w .period-high)
     also le-leb (s .capacity .n .0) (s .period .0) (w .n)
@@ -128,18 +129,21 @@ pub record TaskWithin (rows t : ℕ) (k : TaskLine) : Type 0 where
   pub d2-high : k .limit .d2 .0 ≤ 100000 * t
 
 pub within-task : (rows t : ℕ) (k : TaskLine) → 0 < t → TaskWithin rows t k → every (taskBounds rows t k) ≡ true
-unfolding taskBounds taskKeeps
+unfolding taskBounds
 within-task rows t k h w =
     all-hold
     (lt-ltb rows 64 (w .room)
+    also refl
+    also refl
     also is-within 1 255 (k .priority) (w .priority-low) (w .priority-high)
+    also refl
     also limit-within t (k .limit .n .0) h (w .n-low) (w .n-high)
     also limit-within t (k .limit .d1 .0) h (w .d1-low) (w .d1-high)
     also limit-within t (k .limit .d2 .0) h (w .d2-low) (w .d2-high)
     also none)
 
 pub task-within : (rows t : ℕ) (k : TaskLine) → 0 < t → every (taskBounds rows t k) ≡ true → TaskWithin rows t k
-unfolding taskBounds taskKeeps
+unfolding taskBounds
 task-within rows t k h e =
     let b = every-at (taskBounds rows t k) e in
     let n = k .limit .n .0 in
@@ -147,14 +151,14 @@ task-within rows t k h e =
     let d2 = k .limit .d2 .0 in
     record {
       room = ltb-true rows 64 (b 0);
-      priority-low = within-low 1 255 (k .priority) (b 1);
-      priority-high = within-high 1 255 (k .priority) (b 1);
-      n-low = limit-low t n h (within-low 1 100000 (up n t) (b 2));
-      n-high = limit-high t n h (within-high 1 100000 (up n t) (b 2));
-      d1-low = limit-low t d1 h (within-low 1 100000 (up d1 t) (b 3));
-      d1-high = limit-high t d1 h (within-high 1 100000 (up d1 t) (b 3));
-      d2-low = limit-low t d2 h (within-low 1 100000 (up d2 t) (b 4));
-      d2-high = limit-high t d2 h (within-high 1 100000 (up d2 t) (b 4));
+      priority-low = within-low 1 255 (k .priority) (b 3);
+      priority-high = within-high 1 255 (k .priority) (b 3);
+      n-low = limit-low t n h (within-low 1 100000 (up n t) (b 5));
+      n-high = limit-high t n h (within-high 1 100000 (up n t) (b 5));
+      d1-low = limit-low t d1 h (within-low 1 100000 (up d1 t) (b 6));
+      d1-high = limit-high t d1 h (within-high 1 100000 (up d1 t) (b 6));
+      d2-low = limit-low t d2 h (within-low 1 100000 (up d2 t) (b 7));
+      d2-high = limit-high t d2 h (within-high 1 100000 (up d2 t) (b 7));
     }
 
 pub task-bounds-exactly : (rows t : ℕ) (k : TaskLine) → 0 < t →

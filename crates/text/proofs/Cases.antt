@@ -1,4 +1,4 @@
--- Small texts worked out by hand: the number and the lines that each is answered with, and what is
+-- Small texts worked out by hand: the number, the line and the field that each is answered with, and what is
 -- written. So a wrong definition is a false equation that can be seen. Assumes nothing.
 use mathlib.Core.Path.{_≡_, refl}
 use mathlib.Core.Bool.{false}
@@ -7,33 +7,35 @@ use Prim.Native.Nat.{ℕ}
 use Prim.Native.String.{String}
 use lib.ListN.{length, replicate}
 use Rattle.laws.specs.Choice.{every}
-use Rattle.laws.specs.Search.{least}
+use Rattle.laws.specs.Search.{least, firstFailed}
 use Rattle.laws.specs.RoundUp.{up}
 use Rattle.laws.specs.Quoted.{bytes, lined}
 use Rattle.laws.specs.Rows.{allBelow}
 use Rattle.decimal.specs.Number.{areDigits, numberForm, isNumber, worthFrom, digitsIn, digits}
 use Rattle.decimal.specs.Lines.{split, join, closed, same}
-use Rattle.table.specs.Rows.{tableOf}
+use Rattle.table.specs.declared.Refusal.the-variants.{OutOfBounds}
+use Rattle.table.specs.declared.Standing.the-variants.{Broken}
+use Rattle.table.specs.Rows.{tableOf, noServer}
 use Rattle.table.specs.Rules.{tableKeeps, keeps, serverKeeps, taskKeeps, taskFault, taskStands, differ}
 use Rattle.table.specs.Pairs.{laterEqual, firstPair}
 use Rattle.text.specs.Words.{tickWord, serverWord, taskWord, eventWord, timedWord, loWord, miWord, hiWord}
-use Rattle.text.specs.Line.{tickForm, serverForm, taskForm, allFit, has, lineOf, readLine, fieldsOf, writeLine}
+use Rattle.text.specs.Line.{tickForm, serverForm, taskForm, fieldTests, formTests, lineBy, lineOf, readLine, fieldsOf, writeLine}
 use Rattle.text.specs.Standing.{placed, serverBounds, taskBounds, bounds, serverWhole, wholes, fault, standing, grown}
-use Rattle.text.specs.Read.{readingNumber, readingLines, compared, ended, readFrom, read}
+use Rattle.text.specs.Read.{readingNumber, readingValues, compared, ended, readFrom, read}
 use Rattle.text.specs.Write.{serverLines, taskLines, linesOf, write, wrote, allTimesWhole, timesWhole}
 
 unfoldable computed : Unit {0}
 unfolding
-    every least up allBelow areDigits numberForm isNumber worthFrom digitsIn digits split join closed same tableOf
+    every least firstFailed up allBelow areDigits numberForm isNumber worthFrom digitsIn digits split join closed same tableOf
     tableKeeps keeps serverKeeps taskKeeps taskFault taskStands differ laterEqual firstPair tickWord serverWord
-    taskWord eventWord timedWord loWord miWord hiWord tickForm serverForm taskForm allFit has lineOf readLine
+    taskWord eventWord timedWord loWord miWord hiWord tickForm serverForm taskForm fieldTests formTests lineBy lineOf readLine
     fieldsOf writeLine placed serverBounds taskBounds bounds serverWhole wholes fault standing grown compared
     ended readFrom read serverLines taskLines linesOf write wrote allTimesWhole
 computed = tt
 
--- the number, and the lines that come back with it
+-- the number, and what comes back with it: line and field, or both lines
 abbrev said : List ℕ → List ℕ
-said text = readingNumber (read text .answer) ∷ readingLines (read text .answer)
+said text = readingNumber (read text .answer) ∷ readingValues (read text .answer)
 
 -- a `tick` line and a timed server below it, with these times
 abbrev server : String → String → List ℕ
@@ -43,28 +45,58 @@ server tick times = bytes "tick\t" ++ lined (tick ∷ []) ++ bytes "server\t0\tt
 abbrev whole : String → List ℕ
 whole limits = server "1000" "2000\t1000\t1000\t1000" ++ bytes "task\t0\t0\t1\tLO\t" ++ lined (limits ∷ [])
 
-pub tick-of-0 : said (lined ("tick\t0" ∷ [])) ≡ 2 ∷ 1 ∷ []
+pub tick-of-0 : said (lined ("tick\t0" ∷ [])) ≡ 2 ∷ 1 ∷ 1 ∷ []
 unfolding computed
 tick-of-0 = refl
 
-pub parted-by-a-blank : said (lined ("tick 1000" ∷ [])) ≡ 1 ∷ 1 ∷ []
+pub parted-by-a-blank : said (lined ("tick 1000" ∷ [])) ≡ 1 ∷ 1 ∷ 0 ∷ []
 unfolding computed
 parted-by-a-blank = refl
 
-pub field-too-many : said (lined ("tick\t1000\t1" ∷ [])) ≡ 1 ∷ 1 ∷ []
+pub field-too-many : said (lined ("tick\t1000\t1" ∷ [])) ≡ 1 ∷ 1 ∷ 0 ∷ []
 unfolding computed
 field-too-many = refl
 
+-- the count of fields comes before a malformed one, and so does a line's place
+pub count-before-a-field : said (lined ("tick\tx\t1" ∷ [])) ≡ 1 ∷ 1 ∷ 0 ∷ []
+unfolding computed
+count-before-a-field = refl
+
+pub misplaced-before-a-field : said (lined ("server\tx\ttimed\t1\t2000\t1000\t1000\t1000" ∷ [])) ≡ 1 ∷ 1 ∷ 0 ∷ []
+unfolding computed
+misplaced-before-a-field = refl
+
+-- "leftmost field concerned": of two malformed, of two out of bounds, of two not whole
+pub leftmost-malformed : said (server "1000" "2000\tx\t1000\t") ≡ 1 ∷ 2 ∷ 5 ∷ []
+unfolding computed
+leftmost-malformed = refl
+
+pub leftmost-out-of-bounds : said (server "1000" "2000\t1000\t3000\t4000") ≡ 2 ∷ 2 ∷ 6 ∷ []
+unfolding computed
+leftmost-out-of-bounds = refl
+
+pub leftmost-not-whole : said (server "1000" "2500\t1000\t1500\t1000") ≡ 3 ∷ 2 ∷ 4 ∷ []
+unfolding computed
+leftmost-not-whole = refl
+
+-- a 33rd server of partition 16
+pub row-before-a-number :
+    standing 34 (record { tick = record { 0 = 1000 }; servers = replicate 32 noServer; tasks = [] })
+    (readLine (bytes "server\t16\ttimed\t1\t2000\t0\t0\t0"))
+    ≡ Broken OutOfBounds 0
+unfolding computed
+row-before-a-number = refl
+
 -- below a tick, and not whole: 2 comes before 3
-pub period-of-half-a-tick : said (server "2" "1\t0\t0\t0") ≡ 2 ∷ 2 ∷ []
+pub period-of-half-a-tick : said (server "2" "1\t0\t0\t0") ≡ 2 ∷ 2 ∷ 4 ∷ []
 unfolding computed
 period-of-half-a-tick = refl
 
-pub period-too-long : said (server "1" "1000001\t0\t0\t0") ≡ 2 ∷ 2 ∷ []
+pub period-too-long : said (server "1" "1000001\t0\t0\t0") ≡ 2 ∷ 2 ∷ 4 ∷ []
 unfolding computed
 period-too-long = refl
 
-pub capacity-above-the-period : said (server "1000" "2000\t2001\t0\t0") ≡ 2 ∷ 2 ∷ []
+pub capacity-above-the-period : said (server "1000" "2000\t2001\t0\t0") ≡ 2 ∷ 2 ∷ 5 ∷ []
 unfolding computed
 capacity-above-the-period = refl
 
@@ -72,7 +104,7 @@ pub limit-of-200-ticks : said (whole "200000\t200000\t200000") ≡ 0 ∷ []
 unfolding computed
 limit-of-200-ticks = refl
 
-pub byte-after-the-last-line : said (whole "1000\t1000\t1000" ++ bytes "x") ≡ 1 ∷ 4 ∷ []
+pub byte-after-the-last-line : said (whole "1000\t1000\t1000" ++ bytes "x") ≡ 1 ∷ 4 ∷ 0 ∷ []
 unfolding computed
 byte-after-the-last-line = refl
 

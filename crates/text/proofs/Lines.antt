@@ -1,16 +1,18 @@
 -- A line and its text are inverse: what a written line says is what was written, and a line that
 -- has a form is written as it stands. Nothing here knows a bound or a row. Assumes nothing.
-use mathlib.Core.Path.{_≡_, refl, sym, ap, ap₂}
+use mathlib.Core.Path.{_≡_, refl, sym, ap, ap₂, _∙_}
 use mathlib.Core.Bool.{Bool, true, false, _||_}
 use mathlib.Core.List.{List, [], _∷_}
 use mathlib.Core.Logic.{_⊎_, inl, inr}
 use Prim.Native.Nat.{ℕ, suc, _≤_, _<_}
 use native.Mathlib.Omega.{arith}
 use lib.ListN.{length, getD}
-use lib.Dec.{leb}
-use borrow.Author.Tests.{leb-true}
-use Rattle.laws.specs.Choice.{if_then_else_}
-use Rattle.laws.proofs.Choice.{clash, and-left, and-right, if-ind, or-cases}
+use Rattle.laws.specs.declared.Found.{Found}
+use Rattle.laws.specs.declared.Found.the-variants.{At, Nothing}
+use Rattle.laws.specs.Choice.{if_then_else_, every, within}
+use Rattle.laws.specs.Search.{least, firstFailed}
+use Rattle.laws.proofs.Choice.{clash, if-ind, and-left, and-right, or-cases, within-low, within-high}
+use Rattle.laws.proofs.Search.{failed-none}
 use Rattle.decimal.specs.Number.{worth, digits}
 use Rattle.decimal.specs.Lines.{tab, lineFeed, split, same}
 use Rattle.decimal.proofs.Numbers.{worth-digits, number-digits, digits-worth, digits-length}
@@ -20,10 +22,12 @@ use Rattle.table.specs.declared.Kind.the-variants.{Event, Timed}
 use Rattle.table.specs.declared.Level.{Level}
 use Rattle.table.specs.declared.Level.the-variants.{LO, MI, HI}
 use Rattle.text.specs.declared.Times.{Times}
+use Rattle.text.specs.declared.Word.{Word}
+use Rattle.text.specs.declared.Word.the-variants.{ATick, AServer, ATask, Unknown}
 use Rattle.text.specs.declared.Line.{Line}
 use Rattle.text.specs.declared.Line.the-variants.{OfTick, OfServer, OfTask, Malformed}
 use Rattle.text.specs.Words.{tickWord, serverWord, taskWord, eventWord, timedWord, loWord, miWord, hiWord, isKind, kindOf, kindWord, isLevel, levelOf, levelWord}
-use Rattle.text.specs.Line.{Expected, aNumber, aKind, aLevel, fits, Form, tickForm, serverForm, taskForm, allFit, has, microsAt, serverSaid, taskSaid, lineOf, readLine, timesFields, fieldsOf, writeLine}
+use Rattle.text.specs.Line.{Expected, aNumber, aKind, aLevel, fits, Form, tickForm, serverForm, taskForm, fieldTests, formTests, microsAt, serverSaid, taskSaid, leading, wordOf, saidUnless, formed, lineBy, lineOf, readLine, timesFields, fieldsOf, writeLine}
 
 -- A line that has a text: it has a form, and each number has at most 11 digits.
 abbrev pub Short : ℕ → Type 0
@@ -36,13 +40,13 @@ abbrev pub Writable : Line → Type 0
 Writable (OfTick t) = Short (t .0)
 Writable (OfServer s) = Short (s .partition) × Short (s .priority) × Short (s .period .0) × ShortTimes (s .capacity)
 Writable (OfTask k) = Short (k .home) × Short (k .degraded) × Short (k .priority) × ShortTimes (k .limit)
-Writable Malformed = ⊥
+Writable (Malformed word field) = ⊥
 
 abbrev pub Formed : Line → Type 0
 Formed (OfTick t) = Unit {0}
 Formed (OfServer s) = Unit {0}
 Formed (OfTask k) = Unit {0}
-Formed Malformed = ⊥
+Formed (Malformed word field) = ⊥
 
 -- words: a kind and a level come back from theirs
 kind-word : (k : Kind) → isKind (kindWord k) ≡ true
@@ -118,12 +122,32 @@ level-high LO = refl
 level-high MI = refl
 level-high HI = refl
 
+-- fields have a form exactly if none of its tests fails
+abbrev pub Has : Form → List (List ℕ) → Type 0
+Has form fs = every (formTests form fs) ≡ true
+
+said-formed : (form : Form) (fs : List (List ℕ)) (said : Line) → Has form fs → formed form fs said ≡ said
+said-formed form fs said h = ap (λ x. saidUnless x said) (failed-none (formTests form fs) .1 h)
+
+-- what a line may be whose leading word asks for a form
+formed-ind : (P : Line → Type 0) (form : Form) (fs : List (List ℕ)) (said : Line) → (Has form fs → P said) →
+    ((field : ℕ) → P (Malformed (wordOf said) field)) → P (formed form fs said)
+formed-ind P form fs said f m = go (firstFailed (formTests form fs)) refl
+  where
+    go : (x : Found) → firstFailed (formTests form fs) ≡ x → P (saidUnless x said)
+    go (At field) e = m field
+    go Nothing e = f (failed-none (formTests form fs) .0 e)
+
 -- what the fields of a line say
 line-of-fields : (l : Line) → Writable l → lineOf (fieldsOf l) ≡ l
-unfolding lineOf fieldsOf tickForm serverForm taskForm has allFit same tickWord serverWord taskWord
-line-of-fields (OfTick t) w = rw (number-digits (t .0) w, worth-digits (t .0))
+unfolding lineOf lineBy fieldsOf tickForm serverForm taskForm formTests fieldTests every same tickWord serverWord taskWord
+line-of-fields (OfTick t) w =
+    let fs = digits (t .0) ∷ [] in
+    said-formed tickForm fs (OfTick (microsAt fs 1)) (rw (number-digits (t .0) w)) ∙ rw (worth-digits (t .0))
 line-of-fields (OfServer s) w =
-    rw (
+    let fs = digits (s .partition) ∷ kindWord (s .kind) ∷ digits (s .priority) ∷ digits (s .period .0) ∷ timesFields (s .capacity) in
+    said-formed serverForm fs (OfServer (serverSaid fs))
+    (rw (
       number-digits (s .partition) (w .0),
       kind-word (s .kind),
       number-digits (s .priority) (w .1),
@@ -131,6 +155,8 @@ line-of-fields (OfServer s) w =
       number-digits (s .capacity .n .0) (w .3 .0),
       number-digits (s .capacity .d1 .0) (w .3 .1),
       number-digits (s .capacity .d2 .0) (w .3 .2),
+    ))
+    ∙ rw (
       worth-digits (s .partition),
       kind-back (s .kind),
       worth-digits (s .priority),
@@ -140,7 +166,9 @@ line-of-fields (OfServer s) w =
       worth-digits (s .capacity .d2 .0),
     )
 line-of-fields (OfTask k) w =
-    rw (
+    let fs = digits (k .home) ∷ digits (k .degraded) ∷ digits (k .priority) ∷ levelWord (k .level) ∷ timesFields (k .limit) in
+    said-formed taskForm fs (OfTask (taskSaid fs))
+    (rw (
       number-digits (k .home) (w .0),
       number-digits (k .degraded) (w .1),
       number-digits (k .priority) (w .2),
@@ -148,6 +176,8 @@ line-of-fields (OfTask k) w =
       number-digits (k .limit .n .0) (w .3 .0),
       number-digits (k .limit .d1 .0) (w .3 .1),
       number-digits (k .limit .d2 .0) (w .3 .2),
+    ))
+    ∙ rw (
       worth-digits (k .home),
       worth-digits (k .degraded),
       worth-digits (k .priority),
@@ -156,7 +186,7 @@ line-of-fields (OfTask k) w =
       worth-digits (k .limit .d1 .0),
       worth-digits (k .limit .d2 .0),
     )
-line-of-fields Malformed w = absurd w
+line-of-fields (Malformed word field) w = absurd w
 
 -- each field is at least `0` byte by byte, so a line's text has no line feed, and tabs only between
 -- fields
@@ -185,14 +215,14 @@ fields-high (OfTask k) =
       high-digits (k .limit .d1 .0),
       high-digits (k .limit .d2 .0),
     )
-fields-high Malformed = refl
+fields-high (Malformed word field) = refl
 
 fields-some : (l : Line) → Writable l → 0 < length (fieldsOf l)
 unfolding fieldsOf
 fields-some (OfTick t) w = omega arith
 fields-some (OfServer s) w = omega arith
 fields-some (OfTask k) w = omega arith
-fields-some Malformed w = absurd w
+fields-some (Malformed word field) w = absurd w
 
 pub line-lacks : (l : Line) → lacks lineFeed (writeLine l) ≡ true
 unfolding writeLine
@@ -206,23 +236,25 @@ read-write-line l w =
     rw (split-joined tab (fieldsOf l) (fields-some l w) (all-high-lack tab (fieldsOf l) (omega arith) (fields-high l)))
     (line-of-fields l w)
 
--- what a line may be, by its leading word and the fields after it
-line-ind : (P : Line → Type 0) (w : List ℕ) (fs : List (List ℕ)) →
-    (same w (tickForm .word) ≡ true → has tickForm fs ≡ true → P (OfTick (microsAt fs 1))) →
-    (same w (serverForm .word) ≡ true → has serverForm fs ≡ true → P (OfServer (serverSaid fs))) →
-    (same w (taskForm .word) ≡ true → has taskForm fs ≡ true → P (OfTask (taskSaid fs))) → P Malformed → P (lineOf (w ∷ fs))
-unfolding lineOf
-line-ind P w fs f g h m =
-    if-ind P (same w (tickForm .word)) (λ a. if-ind P (has tickForm fs) (f a) (λ b. m))
-    (λ a. if-ind P (same w (serverForm .word)) (λ b. if-ind P (has serverForm fs) (g b) (λ c. m))
-    (λ b. if-ind P (same w (taskForm .word)) (λ c. if-ind P (has taskForm fs) (h c) (λ d. m)) (λ c. m)))
+-- what a leading word may be
+lead-ind : (P : Word → Type 0) (w : List ℕ) → (tickWord ≡ w → P ATick) → (serverWord ≡ w → P AServer) →
+    (taskWord ≡ w → P ATask) → P Unknown → P (leading w)
+lead-ind P w f g h m =
+    if-ind P (same w tickWord) (λ e. f (sym (same-eq w tickWord e)))
+    (λ a. if-ind P (same w serverWord) (λ e. g (sym (same-eq w serverWord e)))
+    (λ b. if-ind P (same w taskWord) (λ e. h (sym (same-eq w taskWord e))) (λ c. m)))
 
--- a word alone has no form
-pub no-fields : (w : List ℕ) → lineOf (w ∷ []) ≡ Malformed
-unfolding tickForm serverForm taskForm has
-no-fields w =
-    line-ind (λ l. l ≡ Malformed) w [] (λ a h. absurd (clash false h refl)) (λ a h. absurd (clash false h refl))
-    (λ a h. absurd (clash false h refl)) refl
+-- a word alone has no form: the count of its fields is wrong
+none-formed : (word : Word) → lineBy word [] ≡ Malformed word 0
+unfolding lineBy tickForm serverForm taskForm formTests fieldTests firstFailed least
+none-formed ATick = refl
+none-formed AServer = refl
+none-formed ATask = refl
+none-formed Unknown = refl
+
+pub no-fields : (w : List ℕ) → lineOf (w ∷ []) ≡ Malformed (leading w) 0
+unfolding lineOf
+no-fields w = none-formed (leading w)
 
 -- what is read of a field, written: the field, if it is as expected
 back : Expected → List ℕ → List ℕ
@@ -246,36 +278,47 @@ unfolding backFrom
 back-next [] k f fs = refl
 back-next (e ∷ es) k f fs = ap (λ r. back e (getD fs k []) ∷ r) (back-next es (suc k) f fs)
 
-back-all : (es : List Expected) (fs : List (List ℕ)) → length es ≤ length fs → allFit es fs ≡ true → backFrom es 0 fs ≡ fs
-unfolding backFrom allFit
+back-all : (es : List Expected) (fs : List (List ℕ)) → length es ≡ length fs → every (fieldTests es fs) ≡ true →
+    backFrom es 0 fs ≡ fs
+unfolding backFrom fieldTests every
 back-all [] [] l h = refl
-back-all [] (f ∷ fs) l h = absurd (clash false h refl)
+back-all [] (f ∷ fs) l h = absurd (omega arith)
 back-all (e ∷ es) [] l h = absurd (omega arith)
 back-all (e ∷ es) (f ∷ fs) l h =
     rw (
-      back-fits e f (and-left (fits e f) (allFit es fs) h),
+      back-fits e f (and-left (fits e f) (every (fieldTests es fs)) h),
       back-next es 0 f fs,
-      back-all es fs (omega arith) (and-right (fits e f) (allFit es fs) h),
+      back-all es fs (omega arith) (and-right (fits e f) (every (fieldTests es fs)) h),
     )
 
 -- fields that have a form of which each must be there
-form-back : (form : Form) (fs : List (List ℕ)) → length (form .fields) ≤ form .least → has form fs ≡ true →
+form-back : (form : Form) (fs : List (List ℕ)) → length (form .fields) ≤ form .least → Has form fs →
     backFrom (form .fields) 0 fs ≡ fs
-unfolding has
+unfolding formTests every
 form-back form fs l h =
-    let n = leb (form .least) (length fs) in
-    let f = allFit (form .fields) fs in
-    back-all (form .fields) fs (omega (arith, leb-true (form .least) (length fs) (and-left n f h))) (and-right n f h)
+    let m = length (form .fields) in
+    let c = within (form .least) m (length fs) in
+    let t = every (fieldTests (form .fields) fs) in
+    let p = and-left c t h in
+    back-all (form .fields) fs
+    (omega (arith, within-low (form .least) m (length fs) p, within-high (form .least) m (length fs) p))
+    (and-right c t h)
 
 fields-of-line : (fs : List (List ℕ)) → Formed (lineOf fs) → fieldsOf (lineOf fs) ≡ fs
-unfolding fieldsOf tickForm serverForm taskForm back backFrom lineOf
+unfolding fieldsOf tickForm serverForm taskForm back backFrom lineOf lineBy
 fields-of-line [] f = absurd f
 fields-of-line (w ∷ fs) f =
-    line-ind (λ l. Formed l → fieldsOf l ≡ w ∷ fs) w fs
-    (λ a h u. ap₂ _∷_ (sym (same-eq w tickWord a)) (form-back tickForm fs (omega arith) h))
-    (λ a h u. ap₂ _∷_ (sym (same-eq w serverWord a)) (form-back serverForm fs (omega arith) h))
-    (λ a h u. ap₂ _∷_ (sym (same-eq w taskWord a)) (form-back taskForm fs (omega arith) h))
-    (λ m. absurd m)
+    lead-ind (λ word. Formed (lineBy word fs) → fieldsOf (lineBy word fs) ≡ w ∷ fs) w
+    (λ e.
+    formed-ind (λ l. Formed l → fieldsOf l ≡ w ∷ fs) tickForm fs (OfTick (microsAt fs 1))
+    (λ h u. ap₂ _∷_ e (form-back tickForm fs (omega arith) h)) (λ field u. absurd u))
+    (λ e.
+    formed-ind (λ l. Formed l → fieldsOf l ≡ w ∷ fs) serverForm fs (OfServer (serverSaid fs))
+    (λ h u. ap₂ _∷_ e (form-back serverForm fs (omega arith) h)) (λ field u. absurd u))
+    (λ e.
+    formed-ind (λ l. Formed l → fieldsOf l ≡ w ∷ fs) taskForm fs (OfTask (taskSaid fs))
+    (λ h u. ap₂ _∷_ e (form-back taskForm fs (omega arith) h)) (λ field u. absurd u))
+    (λ u. absurd u)
     f
 
 -- what is read of a line that has a form is written as it stands
@@ -330,14 +373,14 @@ fields-length (OfTask k) w = (
     ),
   ),
 )
-fields-length Malformed w = absurd w
+fields-length (Malformed word field) w = absurd w
 
 fields-many : (l : Line) → length (fieldsOf l) ≤ 8
 unfolding fieldsOf
 fields-many (OfTick t) = omega arith
 fields-many (OfServer s) = omega arith
 fields-many (OfTask k) = omega arith
-fields-many Malformed = omega arith
+fields-many (Malformed word field) = omega arith
 
 pub line-length : (l : Line) → Writable l → length (writeLine l) ≤ 96
 unfolding writeLine

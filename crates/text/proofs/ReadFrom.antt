@@ -52,10 +52,10 @@ past-kept n a (l ∷ ps) (suc i) h k =
     (λ j g. sym (next-standing n a l ps j) ∙ k (suc j) (omega arith)) ∙ rw e)
 
 -- the first part but the last that does not stand is told
-pub first-told : (n : ℕ) (a : Rows) (ps : List (List ℕ)) (i : ℕ) (why : Refusal) →
+pub first-told : (n : ℕ) (a : Rows) (ps : List (List ℕ)) (i : ℕ) (why : Refusal) (field : ℕ) →
     suc i < length ps → ((j : ℕ) → j < i → standingAt n a ps j ≡ Kept) →
-    standingAt n a ps i ≡ Broken why → readFrom n a ps ≡ refused why (n + i)
-first-told n a ps i why h k b =
+    standingAt n a ps i ≡ Broken why field → readFrom n a ps ≡ refused why (n + i) field
+first-told n a ps i why field h k b =
     let rows = grownBy a (map readLine (take i ps)) in
     let more : 0 < length (drop (suc i) ps) = omega (arith, length-drop (suc i) ps) in
     past-kept n a ps i (omega arith) k ∙ rw (drop-cons ps i [] (omega arith))
@@ -65,7 +65,7 @@ first-told n a ps i why h k b =
 pub all-told : (n : ℕ) (a : Rows) (ps : List (List ℕ)) (c : ℕ) → length ps ≡ suc c →
     ((j : ℕ) → j < c → standingAt n a ps j ≡ Kept) →
     readFrom n a ps ≡
-    (unless isNil (getD ps c []) say refused Malformed (n + c)
+    (unless isNil (getD ps c []) say refused Malformed (n + c) 0
     else ended (n + c) (grownBy a (map readLine (take c ps))))
 unfolding readFrom
 all-told n a ps c e k =
@@ -86,9 +86,10 @@ all-kept n a (l ∷ ps) (suc c) e k = (
 pub record FirstBroken (n : ℕ) (a : Rows) (ps : List (List ℕ)) (c : ℕ) : Type 0 where
   pub place : ℕ
   pub why : Refusal
+  pub field : ℕ
   pub below : place < c
   pub kept : (j : ℕ) → j < place → standingAt n a ps j ≡ Kept
-  pub broken : standingAt n a ps place ≡ Broken why
+  pub broken : standingAt n a ps place ≡ Broken why field
 
 pub first-or-all : (n : ℕ) (a : Rows) (ps : List (List ℕ)) (c : ℕ) →
     FirstBroken n a ps c ⊎ ((j : ℕ) → j < c → standingAt n a ps j ≡ Kept)
@@ -103,10 +104,11 @@ first-or-all n a ps (suc c) = go (first-or-all n a ps c) (standingAt n a ps c) r
         (record {
           place = f .place;
           why = f .why;
+          field = f .field;
           below = omega (arith, f .below);
           kept = f .kept;
           broken = f .broken;
         })
     go (inr k) Kept e = inr (upto (λ j. standingAt n a ps j ≡ Kept) c k e)
-    go (inr k) (Broken why) e =
-        inl (record { place = c; why = why; below = omega arith; kept = k; broken = e })
+    go (inr k) (Broken why field) e =
+        inl (record { place = c; why = why; field = field; below = omega arith; kept = k; broken = e })

@@ -12,7 +12,7 @@ use lib.ListN.{length, replicate, length-append, length-map, length-replicate}
 use lib.Seq.{take-append-seam}
 use borrow.Author.Tests.{le-leb}
 use Rattle.laws.proofs.Choice.{and-true, and-left, and-right, is-within}
-use Rattle.decimal.specs.Lines.{lineFeed, split, closed}
+use Rattle.decimal.specs.Lines.{lineFeed, split, closed, same}
 use Rattle.decimal.proofs.Lines.{AllUpTo, closed-length, lacks, allLack, split-closed, closed-split}
 use Rattle.table.specs.declared.Table.{Table}
 use Rattle.table.specs.Rows.{Rows, rowsOf, padded, tableOf, noServer, noTask}
@@ -22,7 +22,8 @@ use Rattle.table.proofs.Rules.{rows-keep as table-rows-keep}
 use Rattle.text.specs.declared.Line.{Line}
 use Rattle.text.specs.declared.Line.the-variants.{OfTick, OfServer, OfTask, Malformed}
 use Rattle.text.specs.declared.Reading.the-variants.{Taken}
-use Rattle.text.specs.Line.{readLine, writeLine}
+use Rattle.text.specs.Words.{tickWord, serverWord, taskWord}
+use Rattle.text.specs.Line.{noLine, readLine, writeLine}
 use Rattle.text.specs.Read.{taken, read, shown}
 use Rattle.text.specs.Allowed.{Allowed}
 use Rattle.text.specs.Write.{wrote, written, serverBack, taskBack, serverLines, taskLines, linesOf, write, taskTimesWhole, allTimesWhole, timesWhole}
@@ -50,7 +51,7 @@ formed : (l : Line) → Writable l → Formed l
 formed (OfTick t) w = tt
 formed (OfServer s) w = tt
 formed (OfTask k) w = tt
-formed Malformed w = w
+formed (Malformed word field) w = w
 
 written-read : (ls : List (List ℕ)) → AllWritable (map readLine ls) → map writeLine (map readLine ls) ≡ ls
 written-read [] w = refl
@@ -108,8 +109,8 @@ rows-keep text e =
 
 -- Which lines stay as they stand: those whose task times are whole ticks. Nothing stands after the
 -- last line feed.
-pub nothing-said : readLine [] ≡ Malformed
-unfolding readLine split
+pub nothing-said : readLine [] ≡ noLine
+unfolding readLine split same tickWord serverWord taskWord
 nothing-said = no-fields []
 
 whole-stay : (t : ℕ) → 0 < t → (ls : List (List ℕ)) → allTimesWhole t (ls ++ ([] ∷ [])) ≡ true →

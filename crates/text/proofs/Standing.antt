@@ -1,7 +1,7 @@
 -- Lines that keep the rules where they stand, and the rows that they make: a line is taken exactly
 -- if its row keeps the rules of a table, so rows that keep them come of lines that do, and the
 -- other way round. Nothing here knows a byte. Assumes nothing.
-use mathlib.Core.Path.{_≡_, refl, sym, ap, _∙_}
+use mathlib.Core.Path.{_≡_, refl, ap}
 use mathlib.Core.Bool.{Bool, true, false}
 use mathlib.Core.List.{List, [], _∷_, _++_, append-assoc, append-nil, map-append}
 use mathlib.Core.Logic.{inl, inr}
@@ -11,10 +11,14 @@ use native.Mathlib.Nat.{mul-le-mul-right, le-of-mul-le-mul-right, mul-mod-left}
 use lib.Dec.{leb, ltb}
 use lib.ListN.{length, getD, length-append, List·getD-append}
 use lib.Seq.{getD-append-seam}
-use borrow.Author.Tests.{eqb-true, leb-true, le-leb}
+use borrow.Author.Tests.{eqb-true, leb-true, le-leb, lt-ltb}
+use Rattle.laws.specs.declared.Found.{Found}
+use Rattle.laws.specs.declared.Found.the-variants.{At, Nothing}
 use Rattle.laws.specs.Choice.{unless_say_else_, every, within}
+use Rattle.laws.specs.Search.{firstFailed}
 use Rattle.laws.proofs.Choice.{clash, and-right, every-at, within-low, within-high, is-within, le-or-lt}
 use Rattle.laws.proofs.RoundUp.{div-mono}
+use Rattle.laws.proofs.Search.{failed-none}
 use Rattle.units.specs.declared.Micros.{Micros}
 use Rattle.table.specs.declared.Server.{Server}
 use Rattle.table.specs.declared.Task.{Task}
@@ -25,44 +29,70 @@ use Rattle.table.specs.Rules.{serverKeeps, taskKeeps, taskStands}
 use Rattle.table.proofs.Rules.{rows-there, stands}
 use Rattle.text.specs.declared.ServerLine.{ServerLine}
 use Rattle.text.specs.declared.TaskLine.{TaskLine}
+use Rattle.text.specs.declared.Word.{Word}
 use Rattle.text.specs.declared.Line.{Line}
 use Rattle.text.specs.declared.Line.the-variants.{OfTick, OfServer, OfTask, Malformed}
 use Rattle.table.specs.declared.Standing.{Standing}
 use Rattle.table.specs.declared.Standing.the-variants.{Kept, Broken}
-use Rattle.text.specs.Standing.{isNil, serverOf, limitsOf, taskOf, placed, serverBounds, taskBounds, bounds, whole, serverWhole, wholes, fault, standing, grown}
+use Rattle.text.specs.Standing.{isNil, serverOf, limitsOf, taskOf, placed, serverBounds, taskBounds, bounds, whole, serverWhole, wholes, fault, tell_at_or_, standing, grown}
+use Rattle.text.specs.Line.{wordOf, malformedAt}
 use Rattle.text.specs.Write.{serverBack, taskBack, serverLines, taskLines, linesOf}
 use Rattle.text.proofs.Lines.{Writable}
 use Rattle.text.proofs.Ticks.{whole-div, server-back, rounded}
 use Rattle.text.proofs.Bounds.{tick-within, server-within, within-server, task-within}
-use Rattle.text.proofs.Refused.{in-order}
 
--- "line by line 1, 2, 3, 4": kept is kept of each
-unless-kept : (b : Bool) (why : Refusal) (r : Standing) → (unless b say Broken why else r) ≡ Kept →
+-- the tests of a line in their order: kept is kept of each
+unless-kept : (b : Bool) (why : Refusal) (field : ℕ) (r : Standing) → (unless b say Broken why field else r) ≡ Kept →
     (b ≡ true) × (r ≡ Kept)
-unless-kept true why r e = (refl, e)
-unless-kept false why r e = let c : _≡_ {A = ℕ} 0 1 = cc in absurd (omega arith)
+unless-kept true why field r e = (refl, e)
+unless-kept false why field r e = let c : _≡_ {A = ℕ} 0 1 = cc in absurd (omega arith)
+
+tell-kept : (x : Found) (why : Refusal) (r : Standing) → (tell why at x or r) ≡ Kept → (x ≡ Nothing) × (r ≡ Kept)
+tell-kept (At field) why r e = let c : _≡_ {A = ℕ} 0 1 = cc in absurd (omega arith)
+tell-kept Nothing why r e = (refl, e)
 
 pub record Keeps (n : ℕ) (a : Rows) (l : Line) : Type 0 where
-  pub stands : placed n a l ≡ true
+  pub stands : placed n a (wordOf l) ≡ true
+  pub formed : malformedAt l ≡ Nothing
   pub bounded : every (bounds a l) ≡ true
   pub whole : every (wholes a l) ≡ true
   pub fits : fault a l ≡ Kept
 
 pub standing-keeps : (n : ℕ) (a : Rows) (l : Line) → standing n a l ≡ Kept → Keeps n a l
+unfolding standing
 standing-keeps n a l e =
-    let p = unless-kept (placed n a l) MalformedWhy _ (sym (in-order n a l) ∙ e) in
-    let q = unless-kept (every (bounds a l)) OutOfBounds _ (p .1) in
-    let r = unless-kept (every (wholes a l)) NotWhole _ (q .1) in
-    record { stands = p .0; bounded = q .0; whole = r .0; fits = r .1 }
+    let p = unless-kept (placed n a (wordOf l)) MalformedWhy 0 _ e in
+    let f = tell-kept (malformedAt l) MalformedWhy _ (p .1) in
+    let q = tell-kept (firstFailed (bounds a l)) OutOfBounds _ (f .1) in
+    let r = tell-kept (firstFailed (wholes a l)) NotWhole _ (q .1) in
+    record {
+      stands = p .0;
+      formed = f .0;
+      bounded = failed-none (bounds a l) .0 (q .0);
+      whole = failed-none (wholes a l) .0 (r .0);
+      fits = r .1;
+    }
 
 pub keeps-standing : (n : ℕ) (a : Rows) (l : Line) → Keeps n a l → standing n a l ≡ Kept
 unfolding standing
-keeps-standing n a l k = rw (k .stands, k .bounded, k .whole) (k .fits)
+keeps-standing n a l k =
+    rw (
+      k .stands,
+      k .formed,
+      failed-none (bounds a l) .1 (k .bounded),
+      failed-none (wholes a l) .1 (k .whole),
+    )
+    (k .fits)
 
 -- the bounds of a task are its room and table's own rule
 pub task-keeps : (rows t : ℕ) (k : TaskLine) → every (taskBounds rows t k) ≡ true → every (taskKeeps (taskOf t k)) ≡ true
-unfolding taskBounds every
+unfolding taskBounds taskKeeps every
 task-keeps rows t k e = and-right (ltb rows 64) (every (taskKeeps (taskOf t k))) e
+
+pub task-bounded : (rows t : ℕ) (k : TaskLine) → rows < 64 → every (taskKeeps (taskOf t k)) ≡ true →
+    every (taskBounds rows t k) ≡ true
+unfolding taskBounds taskKeeps every
+task-bounded rows t k l e = rw (lt-ltb rows 64 l) e
 
 -- bounds in microseconds, and the same in ticks
 period-ticks : (t u : ℕ) → 0 < t → u % t ≡ 0 → t ≤ u → u ≤ 1000000 * t → within 1 1000000 (u / t) ≡ true
@@ -88,7 +118,7 @@ server-keeps rows t s h b w =
     rw (
       is-within 0 15 (s .partition) (omega arith) (p .partition),
       is-within 1 255 (s .priority) (p .priority-low) (p .priority-high),
-      period-ticks t (s .period .0) h (eqb-true (s .period .0 % t) 0 (q 0)) (p .period-low) (p .period-high),
+      period-ticks t (s .period .0) h (eqb-true (s .period .0 % t) 0 (q 4)) (p .period-low) (p .period-high),
       capacity-ticks t (s .capacity .n .0) (s .period .0) h (p .n),
       capacity-ticks t (s .capacity .d1 .0) (s .period .0) h (p .d1),
       capacity-ticks t (s .capacity .d2 .0) (s .period .0) h (p .d2),
@@ -235,21 +265,22 @@ task-writable n a x g k =
       ),
     )
 
+-- a malformed line stands nowhere
+pub no-form : (n : ℕ) (a : Rows) (word : Word) (field : ℕ) → Keeps n a (Malformed word field) → ⊥
+no-form n a word field k =
+    let e : At field ≡ Nothing = k .formed in let c : _≡_ {A = ℕ} 0 1 = cc in omega arith
+
 -- the `tick` line stands first, and no other does
 pub stands-first : (l : Line) → Keeps 1 noRows l → (t : Micros) × (l ≡ OfTick t)
 unfolding placed
 stands-first (OfTick t) k = (t, refl)
 stands-first (OfServer s) k = absurd (clash false (k .stands) refl)
 stands-first (OfTask x) k = absurd (clash false (k .stands) refl)
-stands-first Malformed k = absurd (clash false (k .stands) refl)
+stands-first (Malformed word field) k = absurd (no-form 1 noRows word field k)
 
 no-tick : (n : ℕ) (a : Rows) (t : Micros) → 1 < n → Keeps n a (OfTick t) → ⊥
 unfolding placed
 no-tick n a t h k = let e : n ≡ 1 = eqb-true n 1 (k .stands) in omega arith
-
-not-malformed : (n : ℕ) (a : Rows) → Keeps n a Malformed → ⊥
-unfolding placed
-not-malformed n a k = clash false (k .stands) refl
 
 -- what a line after the first does: its row is the last of its kind, and its text is what the rows'
 -- text gains
@@ -303,4 +334,4 @@ stepped n a (OfTask x) h g k =
             append-assoc (serverLines t (a .servers)) (taskLines t (a .tasks)) (OfTask (taskBack t (taskOf t x)) ∷ []),
           );
     }
-stepped n a Malformed h g k = absurd (not-malformed n a k)
+stepped n a (Malformed word field) h g k = absurd (no-form n a word field k)

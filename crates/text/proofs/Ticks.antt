@@ -60,14 +60,14 @@ pub server-back : (t : ℕ) (s : ServerLine) → every (serverWhole t s) ≡ tru
 unfolding serverWhole
 server-back t s e =
     let w = every-at (serverWhole t s) e in
-    rw (back t (s .period) (w 0), back t (s .capacity .n) (w 1), back t (s .capacity .d1) (w 2), back t (s .capacity .d2) (w 3))
+    rw (back t (s .period) (w 4), back t (s .capacity .n) (w 5), back t (s .capacity .d1) (w 6), back t (s .capacity .d2) (w 7))
 
 -- a line with its task times rounded up to a tick
 unfoldable pub rounded : ℕ → Line → Line
 rounded t (OfTick u) = OfTick u
 rounded t (OfServer s) = OfServer s
 rounded t (OfTask k) = OfTask (taskBack t (taskOf t k))
-rounded t Malformed = Malformed
+rounded t (Malformed word field) = Malformed word field
 
 time-stays : (t : ℕ) → 0 < t → (u : Micros) → whole t u ≡ true → inMicros t (roundedUp t u) ≡ u
 time-stays t h u e = rw (whole-up (u .0) t h (eqb-true (u .0 % t) 0 e))
@@ -82,7 +82,7 @@ whole-stays t h (OfServer s) e = refl
 whole-stays t h (OfTask k) e =
     let w = every-at (whole t (k .limit .n) ∷ whole t (k .limit .d1) ∷ whole t (k .limit .d2) ∷ []) e in
     rw (time-stays t h (k .limit .n) (w 0), time-stays t h (k .limit .d1) (w 1), time-stays t h (k .limit .d2) (w 2))
-whole-stays t h Malformed e = refl
+whole-stays t h (Malformed word field) e = refl
 
 pub stays-whole : (t : ℕ) (l : Line) → rounded t l ≡ l → taskTimesWhole t l ≡ true
 unfolding rounded every
@@ -95,4 +95,4 @@ stays-whole t (OfTask k) e =
       time-whole t (k .limit .d1) (ap (λ x. x .limit .d1) q),
       time-whole t (k .limit .d2) (ap (λ x. x .limit .d2) q),
     )
-stays-whole t Malformed e = refl
+stays-whole t (Malformed word field) e = refl

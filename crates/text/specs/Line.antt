@@ -1,18 +1,22 @@
 -- 01, Tables: what a line says, in microseconds, as it stands. Here is judged only whether the line
 -- has the form of a `tick`, a `server` or a `task` line; bounds and rows are judged in
 -- Standing.antt, and know nothing of bytes.
-use mathlib.Core.Bool.{Bool, true, false, _&&_}
+use mathlib.Core.Bool.{Bool}
 use mathlib.Core.List.{List, [], _∷_}
 use Prim.Native.Nat.{ℕ, _-_}
-use lib.Dec.{leb}
 use lib.ListN.{length, getD}
-use Rattle.laws.specs.Choice.{if_then_else_}
+use Rattle.laws.specs.declared.Found.{Found}
+use Rattle.laws.specs.declared.Found.the-variants.{At, Nothing}
+use Rattle.laws.specs.Choice.{if_then_else_, within}
+use Rattle.laws.specs.Search.{firstFailed}
 use Rattle.decimal.specs.Number.{isNumber, worth, digits}
 use Rattle.decimal.specs.Lines.{tab, split, join, same}
 use Rattle.units.specs.declared.Micros.{Micros}
 use Rattle.text.specs.declared.Times.{Times}
 use Rattle.text.specs.declared.ServerLine.{ServerLine}
 use Rattle.text.specs.declared.TaskLine.{TaskLine}
+use Rattle.text.specs.declared.Word.{Word}
+use Rattle.text.specs.declared.Word.the-variants.{ATick, AServer, ATask, Unknown}
 use Rattle.text.specs.declared.Line.{Line}
 use Rattle.text.specs.declared.Line.the-variants.{OfTick, OfServer, OfTask, Malformed}
 use Rattle.text.specs.Words.{tickWord, serverWord, taskWord, isKind, kindOf, kindWord, isLevel, levelOf, levelWord}
@@ -28,23 +32,21 @@ fits aNumber f = isNumber f
 fits aKind f = isKind f
 fits aLevel f = isLevel f
 
--- The form of a kind of line: its leading word, what each field after it is expected to be, and how
+-- The form of a kind of line: what each field after its leading word is expected to be, and how
 -- many fields there are at least.
 pub record Form : Type 0 where
-  pub word : List ℕ
   pub fields : List Expected
   pub least : ℕ
 
 -- "`tick`: microseconds in a tick"
 unfoldable pub tickForm : Form
-tickForm = record { word = tickWord; fields = aNumber ∷ []; least = 1 }
+tickForm = record { fields = aNumber ∷ []; least = 1 }
 
 -- "`server`: partition 0 to 15; kind; priority 1 to 255, greater first; period; capacities in N,
 -- D1, D2."
 unfoldable pub serverForm : Form
 serverForm =
     record {
-      word = serverWord;
       fields = aNumber ∷ aKind ∷ aNumber ∷ aNumber ∷ aNumber ∷ aNumber ∷ aNumber ∷ [];
       least = 7;
     }
@@ -54,20 +56,21 @@ serverForm =
 unfoldable pub taskForm : Form
 taskForm =
     record {
-      word = taskWord;
       fields = aNumber ∷ aNumber ∷ aNumber ∷ aLevel ∷ aNumber ∷ aNumber ∷ aNumber ∷ [];
       least = 7;
     }
 
--- each field is what is expected there, and there is none beyond
-unfoldable pub allFit : List Expected → List (List ℕ) → Bool
-allFit es [] = true
-allFit [] (f ∷ fs) = false
-allFit (e ∷ es) (f ∷ fs) = fits e f && allFit es fs
+-- 1, "malformed", field by field: each is what is expected there
+unfoldable pub fieldTests : List Expected → List (List ℕ) → List Bool
+fieldTests es [] = []
+fieldTests [] (f ∷ fs) = []
+fieldTests (e ∷ es) (f ∷ fs) = fits e f ∷ fieldTests es fs
 
--- there are enough fields, and each is as the form expects
-unfoldable pub has : Form → List (List ℕ) → Bool
-has form fs = leb (form .least) (length fs) && allFit (form .fields) fs
+-- 02, No. 2: "a wrong .. count of fields in 1 .. is told first, as 0": the place of a test in the
+-- list is the field that it is about, and 0 is the line itself
+unfoldable pub formTests : Form → List (List ℕ) → List Bool
+formTests form fs =
+    within (form .least) (length (form .fields)) (length fs) ∷ fieldTests (form .fields) fs
 
 -- Fields count from 1 after the leading word. One that is missing is empty: no number and no word.
 abbrev pub fieldAt : List (List ℕ) → ℕ → List ℕ
@@ -101,18 +104,50 @@ taskSaid fs =
       limit = timesAt fs;
     }
 
--- what a line says whose fields have the form
+-- the leading word, and of a line the one that it has
+abbrev pub leading : List ℕ → Word
+leading w =
+    if same w tickWord then ATick
+    else if same w serverWord then AServer
+    else if same w taskWord then ATask
+    else Unknown
+
+abbrev pub wordOf : Line → Word
+wordOf (OfTick t) = ATick
+wordOf (OfServer s) = AServer
+wordOf (OfTask k) = ATask
+wordOf (Malformed word field) = word
+
+-- the field at which a line is malformed, if it is
+abbrev pub malformedAt : Line → Found
+malformedAt (OfTick t) = Nothing
+malformedAt (OfServer s) = Nothing
+malformedAt (OfTask k) = Nothing
+malformedAt (Malformed word field) = At field
+
+-- what a line says where no field is wrong, and the field that is
+abbrev pub saidUnless : Found → Line → Line
+saidUnless (At field) said = Malformed (wordOf said) field
+saidUnless Nothing said = said
+
+-- 02, No. 2: "leftmost field concerned"
 abbrev pub formed : Form → List (List ℕ) → Line → Line
-formed form fs said = if has form fs then said else Malformed
+formed form fs said = saidUnless (firstFailed (formTests form fs)) said
+
+-- a line of no known word: "a wrong leading word .. is told first, as 0"
+abbrev pub noLine : Line
+noLine = Malformed Unknown 0
 
 -- The leading word tells which form the fields after it must have.
+unfoldable pub lineBy : Word → List (List ℕ) → Line
+lineBy ATick fs = formed tickForm fs (OfTick (microsAt fs 1))
+lineBy AServer fs = formed serverForm fs (OfServer (serverSaid fs))
+lineBy ATask fs = formed taskForm fs (OfTask (taskSaid fs))
+lineBy Unknown fs = noLine
+
 unfoldable pub lineOf : List (List ℕ) → Line
-lineOf [] = Malformed
-lineOf (w ∷ fs) =
-    if same w (tickForm .word) then formed tickForm fs (OfTick (microsAt fs 1))
-    else if same w (serverForm .word) then formed serverForm fs (OfServer (serverSaid fs))
-    else if same w (taskForm .word) then formed taskForm fs (OfTask (taskSaid fs))
-    else Malformed
+lineOf [] = noLine
+lineOf (w ∷ fs) = lineBy (leading w) fs
 
 -- "lines parted by tabs"
 unfoldable pub readLine : List ℕ → Line
@@ -138,7 +173,7 @@ fieldsOf (OfTask k) =
     ∷ digits (k .priority)
     ∷ levelWord (k .level)
     ∷ timesFields (k .limit)
-fieldsOf Malformed = []
+fieldsOf (Malformed word field) = []
 
 unfoldable pub writeLine : Line → List ℕ
 writeLine l = join tab (fieldsOf l)

@@ -105,7 +105,7 @@ abbrev pub taskTimesWhole : ℕ → Line → Bool
 taskTimesWhole t (OfTick u) = true
 taskTimesWhole t (OfServer s) = true
 taskTimesWhole t (OfTask k) = every (whole t (k .limit .n) ∷ whole t (k .limit .d1) ∷ whole t (k .limit .d2) ∷ [])
-taskTimesWhole t Malformed = true
+taskTimesWhole t (Malformed word field) = true
 
 unfoldable pub allTimesWhole : ℕ → List (List ℕ) → Bool
 allTimesWhole t [] = true

@@ -34,19 +34,36 @@ pub struct TaskLine {
     pub limit: Times,
 }
 
-// What a line says, nothing of it judged.
+// The leading word of a line: which kind of line it begins, or none.
+pub enum Word {
+    ATick,
+    AServer,
+    ATask,
+    Unknown,
+}
+
+// What a line says, nothing of it judged but its form: a malformed one has its leading word and the
+// first field that is wrong, from 1, or 0 for an unknown word or a wrong count of fields.
 pub enum Line {
     OfTick(Micros),
     OfServer(ServerLine),
     OfTask(TaskLine),
-    Malformed,
+    Malformed(Word, usize),
 }
 
-// What the reader answers: lines count from 1, and 0 is the text itself.
+// What the reader answers: lines count from 1, and 0 is the text itself; fields count from 1 after
+// the leading word, and 0 is the line itself.
 pub enum Reading {
     Taken,
-    Refused { why: Refusal, line: usize },
-    Equal { first: usize, second: usize },
+    Refused {
+        why: Refusal,
+        line: usize,
+        field: usize,
+    },
+    Equal {
+        first: usize,
+        second: usize,
+    },
 }
 
 // The table stands beside the answer. Where the text is refused it is one without rows, noTable of

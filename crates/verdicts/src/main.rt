@@ -67,7 +67,8 @@ fn main() {
     let help = b"verdicts TABLE\n\
         Prints for each server row of the table in the file TABLE its number and its\n\
         response in N, D1 and D2, in ticks, `misses` where there is none.\n\
-        A table that is refused prints one line: table, no, number, line (for 5 both).\n\
+        A table that is refused prints one line: table, no, number, line, field\n\
+        (0 is the line itself; for 5 both lines and no field).\n\
         `-` stands for standard input. README.md has the form and the numbers.\n";
     if files::asked_for_help(help) {
         return;

@@ -25,15 +25,16 @@ returns c =
 returns-2 : tie.Need-returns-2
 returns-2 c =
     let p = c .before .before in
-    let f = p .before .before .before .before in
+    let g = p .before .before .before .before in
+    let f = g .before .before .before .before in
     let n = f .before .before in
     let a = n .before .before in
     let m = a .before .before in
     rw (a .a .given .1, ← (n .number-of .ensures))
-    (at-most
+    (then
     (then (then (then (first m .store-all .ensures) (words m .store-all2 .ensures)) (f .store-field .ensures))
+    (g .store-field2 .ensures))
     (p .store-last2 .ensures))
-    (omega arith))
 
 returns-3 : tie.Need-returns-3
 returns-3 c =
@@ -44,8 +45,8 @@ returns-3 c =
     let m = a .before .before in
     rw (a .a2 .given .1)
     (then
-    (then (then (then (first m .store-all .ensures) (words m .store-all2 .ensures)) (f .store-field2 .ensures))
-    (g .store-field3 .ensures))
+    (then (then (then (first m .store-all .ensures) (words m .store-all2 .ensures)) (f .store-field3 .ensures))
+    (g .store-field4 .ensures))
     (p .store-last3 .ensures))
 
 pub store-refused-spec : {M : Type 1} → statement M
@@ -53,6 +54,7 @@ store-refused-spec =
     tie.close
     (tie.spec (λ c. search needs) (λ c κs. search needs) (λ c. search needs)
     (λ c κs. search needs) (λ c. search needs) (λ c κs. search needs) (λ c. search needs)
-    (λ c κs. search needs) (λ c κs. search needs) (λ c κs. search needs) (λ c. search needs)
-    (λ c κs. search needs) (λ c κs. search needs) (λ c κs. search needs) (λ c. search needs)
+    (λ c κs. search needs) (λ c κs. search needs) (λ c κs. search needs) (λ c κs. search needs)
+    (λ c. search needs) (λ c κs. search needs) (λ c κs. search needs) (λ c κs. search needs)
+    (λ c. search needs)
     returns (λ c. search needs) returns-2 (λ c. search needs) returns-3)

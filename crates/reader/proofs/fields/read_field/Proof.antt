@@ -9,7 +9,9 @@ returns : tie.Need-returns
 returns c = rw (eq-eqb _ 107 (c .before .if1 .taken)) (c .read-kind .ensures)
 
 returns-2 : tie.Need-returns-2
-returns-2 c = rw (ne-eqb _ 107 (c .before .before .if1 .left), eq-eqb _ 108 (c .before .if2 .taken)) (c .read-level .ensures)
+returns-2 c =
+    rw (ne-eqb _ 107 (c .before .before .if1 .left), eq-eqb _ 108 (c .before .if2 .taken))
+    (c .read-level .ensures)
 
 returns-3 : tie.Need-returns-3
 returns-3 c =

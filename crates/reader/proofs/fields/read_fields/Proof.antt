@@ -35,7 +35,8 @@ read : (c : tie.After-note Inv-loop μ-loop) →
     let l = f .before .before .loop in
     let a = f .before .before .before .before .before .args in
     c .note .result ≡ noted (l .f) (l .k)
-    (readField (expectedOf (getD (a .shape .now) (l .k) 0)) (take (f .find .result - l .at) (drop (l .at) (a .line .now))))
+    (readField (expectedOf (getD (a .shape .now) (l .k) 0))
+    (take (f .find .result - l .at) (drop (l .at) (a .line .now))))
 read c =
     let f = c .before .before .before .before in
     let l = f .before .before .loop in
@@ -50,8 +51,8 @@ returns c =
     c .count .ensures
     ∙ ap (counted (a .least) (l .k + 1)) (read n)
     ∙ sym
-    (pass-last (a .least) (a .line .now) (a .shape .now) (l .k) (l .at) (l .f) (f .find .result) (omega arith) (f .find .ensures .0)
-    (omega arith) (omega arith))
+    (pass-last (a .least) (a .line .now) (a .shape .now) (l .k) (l .at) (l .f) (f .find .result)
+    (omega arith) (f .find .ensures .0) (omega arith) (omega arith))
     ∙ sym (l .inv .2)
 
 loop-again : tie.Need-loop-again Inv-loop μ-loop
@@ -60,15 +61,16 @@ loop-again c =
     let f = n .before .before .before .before in
     let l = f .before .before .loop in
     let a = f .before .before .before .before .before .args in
-    let m : f .find .result < length (a .line .now) = lt-of-le-ne (f .find .ensures .1) (c .if1 .left) in (
+    let e = f .find .result in
+    let m : e < length (a .line .now) = lt-of-le-ne (f .find .ensures .1) (c .if1 .left) in (
       omega arith,
       omega arith,
       l .inv .2
-          ∙ pass-next (a .least) (a .line .now) (a .shape .now) (l .k) (l .at) (l .f) (f .find .result) (omega arith)
-          (f .find .ensures .0) m
+          ∙ pass-next (a .least) (a .line .now) (a .shape .now) (l .k) (l .at) (l .f) e
+          (omega arith) (f .find .ensures .0) m
           ∙ ap
           (λ x. passed (a .least) (map expectedOf (drop (l .k + 1) (a .shape .now))) (l .k + 1) x
-          (split tab (drop (f .find .result + 1) (a .line .now))))
+          (split tab (drop (e + 1) (a .line .now))))
           (sym (read n)),
     )
 
@@ -76,7 +78,8 @@ returns-2 : tie.Need-returns-2 Inv-loop μ-loop
 returns-2 c =
     let l = c .before .before .loop in
     let a = c .before .before .before .before .before .args in
-    pass-over (a .least) (a .line .now) (a .shape .now) (l .k) (l .at) (l .f) (omega arith) ∙ sym (l .inv .2)
+    pass-over (a .least) (a .line .now) (a .shape .now) (l .k) (l .at) (l .f) (omega arith)
+    ∙ sym (l .inv .2)
 
 pub read-fields-spec : {M : Type 1} → statement M
 read-fields-spec =

@@ -15,15 +15,17 @@ returns c =
 returns-2 : tie.Need-returns-2
 unfolding timedWord eventWord
 returns-2 c =
-    kind-event (c .before .before .before .before .before .before .before .args .s .now)
-    (sym (c .before .before .before .before .is-same .ensures) ∙ c .before .before .before .if1 .left)
+    let e = c .before .before .before in
+    kind-event (e .before .before .before .before .args .s .now)
+    (sym (e .before .is-same .ensures) ∙ e .if1 .left)
     (sym (c .before .is-same2 .ensures) ∙ c .if2 .taken)
 
 returns-3 : tie.Need-returns-3
 unfolding timedWord eventWord
 returns-3 c =
-    kind-none (c .before .before .before .before .before .before .before .args .s .now)
-    (sym (c .before .before .before .before .is-same .ensures) ∙ c .before .before .before .if1 .left)
+    let e = c .before .before .before in
+    kind-none (e .before .before .before .before .args .s .now)
+    (sym (e .before .is-same .ensures) ∙ e .if1 .left)
     (sym (c .before .is-same2 .ensures) ∙ c .if2 .left)
 
 pub read-kind-spec : {M : Type 1} → statement M

@@ -15,24 +15,29 @@ returns c =
 returns-2 : tie.Need-returns-2
 unfolding hiWord miWord loWord
 returns-2 c =
-    level-mi (c .before .before .before .before .before .before .before .args .s .now)
-    (sym (c .before .before .before .before .is-same .ensures) ∙ c .before .before .before .if1 .left)
+    let e = c .before .before .before in
+    level-mi (e .before .before .before .before .args .s .now)
+    (sym (e .before .is-same .ensures) ∙ e .if1 .left)
     (sym (c .before .is-same2 .ensures) ∙ c .if2 .taken)
 
 returns-3 : tie.Need-returns-3
 unfolding hiWord miWord loWord
 returns-3 c =
-    level-lo (c .before .before .before .before .before .before .before .before .before .before .args .s .now)
-    (sym (c .before .before .before .before .before .before .before .is-same .ensures) ∙ c .before .before .before .before .before .before .if1 .left)
-    (sym (c .before .before .before .before .is-same2 .ensures) ∙ c .before .before .before .if2 .left)
+    let f = c .before .before .before in
+    let e = f .before .before .before in
+    level-lo (e .before .before .before .before .args .s .now)
+    (sym (e .before .is-same .ensures) ∙ e .if1 .left)
+    (sym (f .before .is-same2 .ensures) ∙ f .if2 .left)
     (sym (c .before .is-same3 .ensures) ∙ c .if3 .taken)
 
 returns-4 : tie.Need-returns-4
 unfolding hiWord miWord loWord
 returns-4 c =
-    level-none (c .before .before .before .before .before .before .before .before .before .before .args .s .now)
-    (sym (c .before .before .before .before .before .before .before .is-same .ensures) ∙ c .before .before .before .before .before .before .if1 .left)
-    (sym (c .before .before .before .before .is-same2 .ensures) ∙ c .before .before .before .if2 .left)
+    let f = c .before .before .before in
+    let e = f .before .before .before in
+    level-none (e .before .before .before .before .args .s .now)
+    (sym (e .before .is-same .ensures) ∙ e .if1 .left)
+    (sym (f .before .is-same2 .ensures) ∙ f .if2 .left)
     (sym (c .before .is-same3 .ensures) ∙ c .if3 .left)
 
 pub read-level-spec : {M : Type 1} → statement M

@@ -1,45 +1,31 @@
--- `reader::forms::task_line` meets its contract: nothing is wrong with the fields exactly if they
--- have the form. Assumes nothing.
-use mathlib.Core.Path.{_≡_, refl, sym, _∙_}
-use mathlib.Core.Bool.{true}
-use mathlib.Core.List.{List}
-use Prim.Native.Nat.{ℕ}
+-- `reader::forms::task_line` meets its contract: the first field that is wrong is told, and where
+-- none is, the numbers of the fields are what the line says. Assumes nothing.
+use mathlib.Core.Path.{refl}
 use native.Mathlib.Omega.{arith}
 use borrow.Author.Needs.{needs}
-use Rattle.decimal.specs.Lines.{tab, split}
-use Rattle.decimal.proofs.Lines.{split-some}
-use Rattle.text.specs.Line.{taskForm, has}
-use Rattle.reader.proofs.Line.{form-not, form-has, task-read}
+use Rattle.text.specs.Line.{taskForm}
+use Rattle.reader.proofs.Line.{form-not, task-read}
 use Rattle.reader.proofs.forms.task_line.Statement.{statement}
 use Rattle.reader.proofs.forms.task_line.Tie as tie
-
-abbrev fields : tie.After-read-fields → List (List ℕ)
-fields c = split tab (c .before .before .before .args .rest .now)
 
 returns : tie.Need-returns
 unfolding taskForm
 returns c =
-    let r = c .before .before in
-    form-not taskForm (fields r) (r .read-fields .result) (split-some tab (r .before .before .before .args .rest .now))
-    (r .read-fields .ensures) _ (sym (c .before .is-wrong .ensures) ∙ c .if1 .taken)
-
-has-form : (c : tie.Else1) → has taskForm (fields (c .before .before)) ≡ true
-unfolding taskForm
-has-form c =
-    let r = c .before .before in
-    form-has taskForm (fields r) (r .read-fields .result) (split-some tab (r .before .before .before .args .rest .now))
-    (r .read-fields .ensures) (sym (c .before .is-wrong .ensures) ∙ c .if1 .left)
+    let r = c .before .before .before in
+    form-not taskForm (r .before .before .before .args .rest .now) (r .read-fields .result)
+    (r .read-fields .ensures) _ _ (c .before .wrong .given .1)
 
 returns-2 : tie.Need-returns-2
 unfolding taskForm
 returns-2 c =
     let e = c .before .before in
-    task-read (fields (e .before .before)) (e .before .before .read-fields .result) (c .level-at .result) (c .level-at .ensures)
-    (e .before .before .read-fields .ensures) (has-form e)
+    let r = e .before .before in
+    task-read (r .before .before .before .args .rest .now) (r .read-fields .result)
+    (c .level-at .result) (c .level-at .ensures) (r .read-fields .ensures) (e .enum-told .given .1)
 
 pub task-line-spec : {M : Type 1} → statement M
 task-line-spec =
     tie.close
-    (tie.spec (λ c. refl) (λ c κs. omega arith) (λ c κs. tt) returns (search needs) (search needs)
-    (search needs) (search needs) (search needs) (search needs) (search needs) (search needs)
-    returns-2)
+    (tie.spec (λ c. refl) (λ c κs. omega arith) (search needs) returns (search needs) (search needs)
+    (λ c κs. tt) (search needs) (search needs) (search needs) (search needs) (search needs)
+    (search needs) returns-2)

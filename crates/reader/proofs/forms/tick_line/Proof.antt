@@ -1,43 +1,30 @@
--- `reader::forms::tick_line` meets its contract: nothing is wrong with the fields exactly if they
--- have the form. Assumes nothing.
-use mathlib.Core.Path.{_≡_, refl, sym, _∙_}
-use mathlib.Core.Bool.{true}
-use mathlib.Core.List.{List}
-use Prim.Native.Nat.{ℕ}
+-- `reader::forms::tick_line` meets its contract: the first field that is wrong is told, and where
+-- none is, the numbers of the fields are what the line says. Assumes nothing.
+use mathlib.Core.Path.{refl}
 use native.Mathlib.Omega.{arith}
 use borrow.Author.Needs.{needs}
-use Rattle.decimal.specs.Lines.{tab, split}
-use Rattle.decimal.proofs.Lines.{split-some}
-use Rattle.text.specs.Line.{tickForm, has}
-use Rattle.reader.proofs.Line.{form-not, form-has, tick-read}
+use Rattle.text.specs.Line.{tickForm}
+use Rattle.reader.proofs.Line.{form-not, tick-read}
 use Rattle.reader.proofs.forms.tick_line.Statement.{statement}
 use Rattle.reader.proofs.forms.tick_line.Tie as tie
-
-abbrev fields : tie.After-read-fields → List (List ℕ)
-fields c = split tab (c .before .before .before .args .rest .now)
 
 returns : tie.Need-returns
 unfolding tickForm
 returns c =
-    let r = c .before .before in
-    form-not tickForm (fields r) (r .read-fields .result) (split-some tab (r .before .before .before .args .rest .now))
-    (r .read-fields .ensures) _ (sym (c .before .is-wrong .ensures) ∙ c .if1 .taken)
-
-has-form : (c : tie.Else1) → has tickForm (fields (c .before .before)) ≡ true
-unfolding tickForm
-has-form c =
-    let r = c .before .before in
-    form-has tickForm (fields r) (r .read-fields .result) (split-some tab (r .before .before .before .args .rest .now))
-    (r .read-fields .ensures) (sym (c .before .is-wrong .ensures) ∙ c .if1 .left)
+    let r = c .before .before .before in
+    form-not tickForm (r .before .before .before .args .rest .now) (r .read-fields .result)
+    (r .read-fields .ensures) _ _ (c .before .wrong .given .1)
 
 returns-2 : tie.Need-returns-2
 unfolding tickForm
 returns-2 c =
     let e = c .before in
-    tick-read (fields (e .before .before)) (e .before .before .read-fields .result) (e .before .before .read-fields .ensures)
-    (has-form e)
+    let r = e .before .before in
+    tick-read (r .before .before .before .args .rest .now) (r .read-fields .result)
+    (r .read-fields .ensures) (e .enum-told .given .1)
 
 pub tick-line-spec : {M : Type 1} → statement M
 tick-line-spec =
     tie.close
-    (tie.spec (λ c. refl) (λ c κs. omega arith) (λ c κs. tt) returns (search needs) returns-2)
+    (tie.spec (λ c. refl) (λ c κs. omega arith) (search needs) returns (search needs) (search needs)
+    returns-2)

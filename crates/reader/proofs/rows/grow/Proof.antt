@@ -82,8 +82,10 @@ returns-3 c =
 returns-4 : tie.Need-returns-4
 returns-4 c =
     let t = c .before .before .args .t1 in
-    put-none t (rowsOf t) (subst (Grows t) (c .enum-told .given .1) (c .before .before .pre))
-    ∙ ap (λ x. tableOf (grown (rowsOf t) x)) (sym (c .enum-told .given .1))
+    let told = c .enum-told .given in
+    put-none t (rowsOf t) (subst (Grows t) (told .1) (c .before .before .pre)) (told .0 .0)
+    (told .0 .1 .0)
+    ∙ ap (λ x. tableOf (grown (rowsOf t) x)) (sym (told .1))
 
 pub grow-spec : {M : Type 1} → statement M
 grow-spec =

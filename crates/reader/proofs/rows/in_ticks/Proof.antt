@@ -9,7 +9,8 @@ use Rattle.reader.proofs.rows.in_ticks.Tie as tie
 cast-t4 : tie.Need-cast-t4
 cast-t4 c =
     let start = c .before .before in
-    record { fits = omega (arith, ticks-few (start .args .u .0) (start .args .tick .0) (start .pre .0) (start .pre .1)) }
+    let few = ticks-few (start .args .u .0) (start .args .tick .0) (start .pre .0) (start .pre .1) in
+    record { fits = omega (arith, few) }
 
 pub in-ticks-spec : {M : Type 1} → statement M
 in-ticks-spec = tie.close (tie.spec (search needs) cast-t4 (search needs))

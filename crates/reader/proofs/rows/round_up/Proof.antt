@@ -9,12 +9,14 @@ use Rattle.reader.proofs.RoundUp.{up-even, up-odd}
 use Rattle.reader.proofs.rows.round_up.Statement.{statement}
 use Rattle.reader.proofs.rows.round_up.Tie as tie
 
-even : (c : tie.Then1) → let a = c .before .before .before .before .before .args in a .u .0 / a .tick .0 ≡ up (a .u .0) (a .tick .0)
+even : (c : tie.Then1) → let a = c .before .before .before .before .before .args in
+    a .u .0 / a .tick .0 ≡ up (a .u .0) (a .tick .0)
 even c =
     let start = c .before .before .before .before .before in
     up-even (start .args .u .0) (start .args .tick .0) (start .pre .0) (c .if1 .taken)
 
-odd : (c : tie.Else1) → let a = c .before .before .before .before .before .args in a .u .0 / a .tick .0 + 1 ≡ up (a .u .0) (a .tick .0)
+odd : (c : tie.Else1) → let a = c .before .before .before .before .before .args in
+    a .u .0 / a .tick .0 + 1 ≡ up (a .u .0) (a .tick .0)
 odd c =
     let start = c .before .before .before .before .before in
     up-odd (start .args .u .0) (start .args .tick .0) (start .pre .0) (c .if1 .left)

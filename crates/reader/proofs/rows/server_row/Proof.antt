@@ -18,13 +18,18 @@ in-ticks-requires-3 : tie.Need-in-ticks-requires-3
 in-ticks-requires-3 c κs = let start = c .before .before .before in (start .pre .0, holds start .d2)
 
 in-ticks-requires-4 : tie.Need-in-ticks-requires-4
-in-ticks-requires-4 c κs = let start = c .before .before .before .before in (start .pre .0, holds start .period)
+in-ticks-requires-4 c κs =
+    let start = c .before .before .before .before in (start .pre .0, holds start .period)
 
 cast-t11 : tie.Need-cast-t11
-cast-t11 c = record { fits = omega (arith, holds (c .before .before .before .before .before .before) .partition) }
+cast-t11 c =
+    let start = c .before .before .before .before .before .before in
+    record { fits = omega (arith, holds start .partition) }
 
 cast-t12 : tie.Need-cast-t12
-cast-t12 c = record { fits = omega (arith, holds (c .before .before .before .before .before .before .before) .priority) }
+cast-t12 c =
+    let start = c .before .before .before .before .before .before .before in
+    record { fits = omega (arith, holds start .priority) }
 
 returns : tie.Need-returns
 returns c =

@@ -11,7 +11,7 @@ unfolding serverBounds
 returns c =
     let t = c .before .before .before .before .before .before in
     let p = t .before .before in
-    c .all-of .ensures
+    c .first-failed .ensures
     ∙ rw (p .before .is-within .ensures, p .is-within2 .ensures, t .is-within3 .ensures)
 
 pub server-bounds-spec : {M : Type 1} → statement M

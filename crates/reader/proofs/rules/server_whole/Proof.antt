@@ -8,7 +8,7 @@ use Rattle.reader.proofs.rules.server_whole.Tie as tie
 
 returns : tie.Need-returns
 unfolding serverWhole
-returns c = c .all-of .ensures
+returns c = c .first-failed .ensures
 
 pub server-whole-spec : {M : Type 1} → statement M
 server-whole-spec =

@@ -2,14 +2,13 @@
 -- order, the limits compared in microseconds. Assumes nothing.
 use mathlib.Core.Path.{refl, _∙_}
 use borrow.Author.Needs.{needs}
-use Rattle.table.specs.Rules.{taskKeeps}
 use Rattle.text.specs.Standing.{taskBounds}
 use Rattle.text.proofs.Bounds.{limit-exactly}
 use Rattle.reader.proofs.rules.task_bounds.Statement.{statement}
 use Rattle.reader.proofs.rules.task_bounds.Tie as tie
 
 returns : tie.Need-returns
-unfolding taskBounds taskKeeps
+unfolding taskBounds
 returns c =
     let z = c .before .before in
     let y = z .before in
@@ -17,7 +16,7 @@ returns c =
     let p = x .before .before .before in
     let a = p .before .args in
     let h = p .before .pre .0 in
-    c .all-of .ensures
+    c .first-failed .ensures
     ∙ rw (
       p .is-within .ensures,
       x .is-within2 .ensures,

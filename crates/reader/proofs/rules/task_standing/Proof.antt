@@ -1,58 +1,51 @@
--- `reader::rules::task_standing` meets its contract: where the line stands, then its bounds, then
--- its rows. Below a server line the tick is from 1 to 10,000. Assumes nothing.
+-- `reader::rules::task_standing` meets its contract: its bounds, then its rows and its limits as
+-- they are rounded up, the tick being from 1 to 10,000. Assumes nothing.
 use mathlib.Core.Path.{_≡_, sym, ap, _∙_}
-use mathlib.Core.Bool.{true}
-use native.Mathlib.Nat.{pos-of-ne-zero}
 use lib.ListN.{take}
-use borrow.Author.Tests.{eq-eqb, ne-eqb, not-true, not-false}
-use Rattle.laws.specs.Choice.{every}
+use borrow.Author.Needs.{needs}
+use Rattle.laws.specs.declared.Found.the-variants.{Nothing}
+use Rattle.laws.specs.Search.{firstFailed}
 use Rattle.laws.proofs.Choice.{within-low, within-high}
-use Rattle.table.specs.Rules.{tickKeeps, taskFault}
+use Rattle.laws.proofs.Search.{failed-none}
+use Rattle.table.specs.Rules.{taskFault}
 use Rattle.text.specs.Standing.{taskBounds}
 use Rattle.text.proofs.Standing.{task-keeps}
 use Rattle.reader.proofs.Standing.{task-fits}
 use Rattle.reader.proofs.rules.task_standing.Statement.{statement}
 use Rattle.reader.proofs.rules.task_standing.Tie as tie
 
--- a server line stands above, so the `tick` line does
-below : (c : tie.Else1) → tickKeeps (c .before .args .tick .0) ≡ true
-below c = c .before .pre (pos-of-ne-zero (c .if1 .left))
-
-bounded : (c : tie.Else2) →
-    let a = c .before .before .before .args in
-    every (taskBounds (a .tasks) (a .tick .0) (a .k)) ≡ true
-bounded c = sym (c .before .task-bounds .ensures) ∙ not-false _ (c .if2 .left)
+task-bounds-requires : tie.Need-task-bounds-requires
+task-bounds-requires c κs = (within-low 1 10000 _ (c .pre), within-high 1 10000 _ (c .pre))
 
 returns : tie.Need-returns
-returns c = rw (eq-eqb _ 0 (c .if1 .taken))
+returns c =
+    let told = c .before in
+    rw (sym (told .before .before .task-bounds .ensures) ∙ told .field .given .1)
 
-task-bounds-requires : tie.Need-task-bounds-requires
-task-bounds-requires c κs = (within-low 1 10000 _ (below c), within-high 1 10000 _ (below c))
-
-returns-2 : tie.Need-returns-2
-returns-2 c =
-    rw (
-      ne-eqb _ 0 (c .before .before .if1 .left),
-      sym (c .before .task-bounds .ensures) ∙ not-true _ (c .if2 .taken),
-    )
+bounded : (c : tie.After-enum-told) →
+    let a = c .before .before .before .args in
+    firstFailed (taskBounds (a .tasks) (a .tick .0) (a .k)) ≡ Nothing
+bounded c = sym (c .before .before .task-bounds .ensures) ∙ c .enum-told .given .1
 
 limits-requires : tie.Need-limits-requires
 limits-requires c κs =
     let e = c .before in
-    let a = e .before .before .before .args in (
-      within-low 1 10000 _ (below (e .before .before)),
-      task-fits (a .tick .0) (a .k) (task-keeps (a .tasks) (a .tick .0) (a .k) (bounded e)) .limits,
+    let start = e .before .before .before in
+    let a = start .args in
+    let b = failed-none (taskBounds (a .tasks) (a .tick .0) (a .k)) .0 (bounded e) in (
+      within-low 1 10000 _ (start .pre),
+      task-fits (a .tick .0) (a .k) (task-keeps (a .tasks) (a .tick .0) (a .k) b) .limits,
     )
 
-returns-3 : tie.Need-returns-3
-returns-3 c =
+returns-2 : tie.Need-returns-2
+returns-2 c =
     let e = c .before .before .before in
     let a = e .before .before .before .args in
-    rw (ne-eqb _ 0 (e .before .before .if1 .left), bounded e)
-    (c .task-fault .ensures
-    ∙ ap (taskFault (take (a .count) (a .ss)) (a .k .home) (a .k .degraded)) (c .before .limits .ensures))
+    let faultOf = taskFault (take (a .count) (a .ss)) (a .k .home) (a .k .degraded) in
+    rw (bounded e) (c .task-fault .ensures ∙ ap faultOf (c .before .limits .ensures))
 
 pub task-standing-spec : {M : Type 1} → statement M
 task-standing-spec =
     tie.close
-    (tie.spec returns task-bounds-requires returns-2 limits-requires (λ c κs. tt) returns-3)
+    (tie.spec task-bounds-requires (search needs) returns (search needs) limits-requires
+    (λ c κs. tt) returns-2)
