@@ -3,7 +3,8 @@
 # lets `cases compare` look for it. Prints a line for each slip: its name, how
 # many of the cases caught it, the first such case.
 #   slips/run.sh [SEED [COUNT [SLIP...]]]
-# Wants both packages built with `cargo build --release`.
+# Wants both packages built with `cargo build --release`. The variable THREADS
+# says how many cases are run at a time, 2 if it is not set.
 set -eu
 cd "$(dirname "$0")/.."
 seed=${1:-1}
@@ -26,8 +27,9 @@ for patch in "$@"; do
     # The folder of programs takes the slipped binary from the variable SECOND.
     SECOND=$root/$scratch/build/release/second \
         cases/target/release/cases compare self target/release/second \
-        --seed "$seed" --count "$count" > "$scratch/$name.log" || true
+        --seed "$seed" --count "$count" --threads "${THREADS:-2}" \
+        > "$scratch/$name.log" || true
     caught=$(tail -n 1 "$scratch/$name.log" | sed 's/.*, \([0-9]*\) failed/\1/')
-    first=$(grep -m 1 ' differs$' "$scratch/$name.log" || true)
+    first=$(grep ' differs$' "$scratch/$name.log" | sort -n -k 4 | head -n 1)
     printf '%s\t%s\t%s\n' "$name" "$caught" "$first"
 done

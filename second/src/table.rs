@@ -155,7 +155,7 @@ impl Table {
             && (1..=MAX_LIMIT).contains(&d2)
             && n <= d1
             && d1 <= d2
-            && servers_fit(&self.servers, u64::from(task.home), u64::from(task.degraded))
+            && misfit(&self.servers, u64::from(task.home), u64::from(task.degraded)).is_none()
     }
 }
 
@@ -166,19 +166,41 @@ fn server_keeps_the_rules(server: &Server) -> bool {
         && server.largest_capacity() <= server.period
 }
 
-/// Whether both server rows of a task are there, and its degraded server is
-/// timed, of the home's partition and, for a timed home, the home itself.
-pub fn servers_fit(servers: &[Server], home: u64, degraded: u64) -> bool {
+/// What can be wrong with the home and the degraded server of a task, in the
+/// order in which it is told.
+#[derive(Clone, Copy, Debug, PartialEq, Eq)]
+pub enum Misfit {
+    HomeAbsent,
+    DegradedAbsent,
+    /// The degraded server is of another partition than the home.
+    OtherPartition,
+    /// The degraded server is not timed.
+    NotTimed,
+    /// The home is timed and the degraded server is another.
+    NotTheHome,
+}
+
+/// The first thing wrong with the server rows of a task, if anything is.
+pub fn misfit(servers: &[Server], home: u64, degraded: u64) -> Option<Misfit> {
     let count = servers.len() as u64;
-    if home >= count || degraded >= count {
-        return false;
+    if home >= count {
+        return Some(Misfit::HomeAbsent);
+    }
+    if degraded >= count {
+        return Some(Misfit::DegradedAbsent);
     }
     let home_server = &servers[home as usize];
     let degraded_server = &servers[degraded as usize];
-    if home_server.kind == Kind::Timed && degraded != home {
-        return false;
+    if degraded_server.partition != home_server.partition {
+        return Some(Misfit::OtherPartition);
     }
-    degraded_server.kind == Kind::Timed && degraded_server.partition == home_server.partition
+    if degraded_server.kind != Kind::Timed {
+        return Some(Misfit::NotTimed);
+    }
+    if home_server.kind == Kind::Timed && degraded != home {
+        return Some(Misfit::NotTheHome);
+    }
+    None
 }
 
 fn all_differ(priorities: impl Iterator<Item = u32>) -> bool {

@@ -5,7 +5,7 @@ use std::fmt;
 
 use crate::number;
 use crate::table::{
-    servers_fit, Kind, Level, Server, Table, Task, MAX_LIMIT, MAX_PARTITION, MAX_PERIOD,
+    misfit, Kind, Level, Misfit, Server, Table, Task, MAX_LIMIT, MAX_PARTITION, MAX_PERIOD,
     MAX_PRIORITY, MAX_SERVERS, MAX_TASKS, MAX_TICK_LENGTH,
 };
 
@@ -15,31 +15,60 @@ pub const MAX_TEXT: usize = 16_384;
 pub const MALFORMED: u8 = 1;
 pub const OUT_OF_BOUNDS: u8 = 2;
 pub const NOT_WHOLE_TICKS: u8 = 3;
-pub const WRONG_ROW: u8 = 4;
+pub const ABSENT_ROW: u8 = 41;
+pub const OTHER_PARTITION: u8 = 42;
+pub const NOT_TIMED: u8 = 43;
+pub const NOT_THE_HOME: u8 = 44;
+pub const FALLING_LIMITS: u8 = 45;
 pub const EQUAL_PRIORITIES: u8 = 5;
 
-/// Why a text was refused: the page's number and the line, for equal
-/// priorities the second line too.
+/// The most fields a line has, with its leading word.
+const MAX_FIELDS: usize = 8;
+
+/// The field that stands for the line itself; the others count from 1 after
+/// the leading word.
+pub const THE_LINE: usize = 0;
+
+/// Why a text was refused: the number for no, the line, and what comes back
+/// with them.
 #[derive(Clone, Copy, Debug, PartialEq, Eq)]
 pub struct Refusal {
     pub number: u8,
     pub line: usize,
-    pub second_line: Option<usize>,
+    pub with: With,
+}
+
+/// What a refusal gives beside its number and line.
+#[derive(Clone, Copy, Debug, PartialEq, Eq)]
+pub enum With {
+    Field(usize),
+    /// For equal priorities, which have no field.
+    SecondLine(usize),
 }
 
 impl Refusal {
-    fn at(number: u8, line: usize) -> Refusal {
-        Refusal { number, line, second_line: None }
+    fn at(line: usize, fault: Fault) -> Refusal {
+        Refusal { number: fault.number, line, with: With::Field(fault.field) }
     }
 }
 
 impl fmt::Display for Refusal {
     fn fmt(&self, f: &mut fmt::Formatter<'_>) -> fmt::Result {
-        write!(f, "table\tno\t{}\t{}", self.number, self.line)?;
-        if let Some(second_line) = self.second_line {
-            write!(f, "\t{second_line}")?;
-        }
-        Ok(())
+        let (With::Field(last) | With::SecondLine(last)) = self.with;
+        write!(f, "table\tno\t{}\t{}\t{last}", self.number, self.line)
+    }
+}
+
+/// What is wrong with a line: the number for no and the field.
+#[derive(Clone, Copy)]
+struct Fault {
+    number: u8,
+    field: usize,
+}
+
+impl Fault {
+    fn new(number: u8, field: usize) -> Fault {
+        Fault { number, field }
     }
 }
 
@@ -47,34 +76,30 @@ impl fmt::Display for Refusal {
 /// line, then equal priorities of servers, then of tasks.
 pub fn read(text: &[u8]) -> Result<Table, Refusal> {
     if text.len() > MAX_TEXT {
-        return Err(Refusal::at(OUT_OF_BOUNDS, 0));
+        return Err(Refusal::at(0, Fault::new(OUT_OF_BOUNDS, THE_LINE)));
     }
 
+    // A line that is missing or unclosed is malformed as a line.
+    let no_line = Fault::new(MALFORMED, THE_LINE);
     let mut reader = Reader::default();
     let mut lines_read = 0;
     let mut rest = text;
     while !rest.is_empty() {
         let line_number = lines_read + 1;
         let Some(end) = rest.iter().position(|&byte| byte == b'\n') else {
-            return Err(Refusal::at(MALFORMED, line_number));
+            return Err(Refusal::at(line_number, no_line));
         };
-        reader.take_line(&rest[..end]).map_err(|number| Refusal::at(number, line_number))?;
+        reader.take_line(&rest[..end]).map_err(|fault| Refusal::at(line_number, fault))?;
         rest = &rest[end + 1..];
         lines_read = line_number;
     }
 
-    let table = reader.finish().ok_or(Refusal::at(MALFORMED, lines_read + 1))?;
+    let table = reader.finish().ok_or(Refusal::at(lines_read + 1, no_line))?;
     check_priorities(&table)?;
     Ok(table)
 }
 
-/// A line that is well formed in itself; times are in microseconds.
-enum Line {
-    Tick(u64),
-    Server(ServerLine),
-    Task(TaskLine),
-}
-
+/// A server line that is well formed; times are in microseconds.
 struct ServerLine {
     partition: u64,
     kind: Kind,
@@ -83,6 +108,7 @@ struct ServerLine {
     capacity: [u64; 3],
 }
 
+/// A task line that is well formed; times are in microseconds.
 struct TaskLine {
     home: u64,
     degraded: u64,
@@ -91,28 +117,58 @@ struct TaskLine {
     limit: [u64; 3],
 }
 
-fn parse_line(line: &[u8]) -> Option<Line> {
-    let fields: Vec<&[u8]> = line.split(|&byte| byte == b'\t').collect();
-    match fields.as_slice() {
-        [b"tick", tick] => Some(Line::Tick(number::parse(tick)?)),
-        [b"server", partition, kind, priority, period, n, d1, d2] => {
-            Some(Line::Server(ServerLine {
-                partition: number::parse(partition)?,
-                kind: Kind::from_word(kind)?,
-                priority: number::parse(priority)?,
-                period: number::parse(period)?,
-                capacity: [number::parse(n)?, number::parse(d1)?, number::parse(d2)?],
-            }))
-        }
-        [b"task", home, degraded, priority, level, n, d1, d2] => Some(Line::Task(TaskLine {
-            home: number::parse(home)?,
-            degraded: number::parse(degraded)?,
-            priority: number::parse(priority)?,
-            level: Level::from_word(level)?,
-            limit: [number::parse(n)?, number::parse(d1)?, number::parse(d2)?],
-        })),
-        _ => None,
+// The fields of a line stand behind its leading word, so that a field's place
+// among them is its count from 1. They are read from left to right, so that the
+// leftmost malformed one is told.
+
+fn parse_tick(fields: &[&[u8]]) -> Result<u64, Fault> {
+    expect_fields(fields, 1)?;
+    number_at(fields, 1)
+}
+
+fn parse_server(fields: &[&[u8]]) -> Result<ServerLine, Fault> {
+    expect_fields(fields, 7)?;
+    Ok(ServerLine {
+        partition: number_at(fields, 1)?,
+        kind: Kind::from_word(fields[2]).ok_or(Fault::new(MALFORMED, 2))?,
+        priority: number_at(fields, 3)?,
+        period: number_at(fields, 4)?,
+        capacity: [number_at(fields, 5)?, number_at(fields, 6)?, number_at(fields, 7)?],
+    })
+}
+
+fn parse_task(fields: &[&[u8]]) -> Result<TaskLine, Fault> {
+    expect_fields(fields, 7)?;
+    Ok(TaskLine {
+        home: number_at(fields, 1)?,
+        degraded: number_at(fields, 2)?,
+        priority: number_at(fields, 3)?,
+        level: Level::from_word(fields[4]).ok_or(Fault::new(MALFORMED, 4))?,
+        limit: [number_at(fields, 5)?, number_at(fields, 6)?, number_at(fields, 7)?],
+    })
+}
+
+/// Whether so many fields follow the leading word.
+fn expect_fields(fields: &[&[u8]], count: usize) -> Result<(), Fault> {
+    if fields.len() != 1 + count {
+        return Err(Fault::new(MALFORMED, THE_LINE));
     }
+    Ok(())
+}
+
+fn number_at(fields: &[&[u8]], field: usize) -> Result<u64, Fault> {
+    number::parse(fields[field]).ok_or(Fault::new(MALFORMED, field))
+}
+
+/// Refuses with the number at the first field whose condition does not hold;
+/// the fields are given from left to right, the line itself before them.
+fn expect(number: u8, conditions: &[(usize, bool)]) -> Result<(), Fault> {
+    for &(field, holds) in conditions {
+        if !holds {
+            return Err(Fault::new(number, field));
+        }
+    }
+    Ok(())
 }
 
 /// What was read so far.
@@ -124,47 +180,64 @@ struct Reader {
 }
 
 impl Reader {
-    /// Takes the next line, without its line feed, or gives the number of its
-    /// refusal.
-    fn take_line(&mut self, line: &[u8]) -> Result<(), u8> {
-        let line = parse_line(line).ok_or(MALFORMED)?;
-        match (line, self.tick) {
-            (Line::Tick(tick), None) => self.take_tick(tick),
-            (Line::Server(server), Some(tick)) if self.tasks.is_empty() => {
-                self.take_server(server, u64::from(tick))
+    /// Takes the next line, without its line feed, or says what is wrong with
+    /// it: its leading word for its place, then the count of its fields, then
+    /// all of 1, 2, 3 and 41 to 45 in this order.
+    fn take_line(&mut self, line: &[u8]) -> Result<(), Fault> {
+        // Of too many fields one more than fits is kept, so that they stay too
+        // many.
+        let mut room: [&[u8]; MAX_FIELDS + 1] = [b""; MAX_FIELDS + 1];
+        let mut count = 0;
+        for (field, place) in line.split(|&byte| byte == b'\t').zip(&mut room) {
+            *place = field;
+            count += 1;
+        }
+        let fields = &room[..count];
+        match (fields[0], self.tick) {
+            (b"tick", None) => self.take_tick(parse_tick(fields)?),
+            (b"server", Some(tick)) if self.tasks.is_empty() => {
+                self.take_server(parse_server(fields)?, u64::from(tick))
             }
-            (Line::Task(task), Some(tick)) if !self.servers.is_empty() => {
-                self.take_task(task, u64::from(tick))
+            (b"task", Some(tick)) if !self.servers.is_empty() => {
+                self.take_task(parse_task(fields)?, u64::from(tick))
             }
-            _ => Err(MALFORMED), // a misplaced line
+            _ => Err(Fault::new(MALFORMED, THE_LINE)),
         }
     }
 
-    fn take_tick(&mut self, tick: u64) -> Result<(), u8> {
-        if tick < 1 || tick > u64::from(MAX_TICK_LENGTH) {
-            return Err(OUT_OF_BOUNDS);
-        }
+    fn take_tick(&mut self, tick: u64) -> Result<(), Fault> {
+        expect(OUT_OF_BOUNDS, &[(1, tick >= 1 && tick <= u64::from(MAX_TICK_LENGTH))])?;
         self.tick = Some(tick as u32);
         Ok(())
     }
 
-    fn take_server(&mut self, line: ServerLine, tick: u64) -> Result<(), u8> {
+    fn take_server(&mut self, line: ServerLine, tick: u64) -> Result<(), Fault> {
         let ServerLine { partition, kind, priority, period, capacity } = line;
+        let [n, d1, d2] = capacity;
 
         // Bounds, in microseconds.
-        let in_bounds = self.servers.len() < MAX_SERVERS
-            && partition <= u64::from(MAX_PARTITION)
-            && priority_in_bounds(priority)
-            && period >= tick
-            && period <= u64::from(MAX_PERIOD) * tick
-            && capacity.iter().all(|&time| time <= period);
-        if !in_bounds {
-            return Err(OUT_OF_BOUNDS);
-        }
-
-        if period % tick != 0 || capacity.iter().any(|time| time % tick != 0) {
-            return Err(NOT_WHOLE_TICKS);
-        }
+        let longest = u64::from(MAX_PERIOD) * tick;
+        expect(
+            OUT_OF_BOUNDS,
+            &[
+                (THE_LINE, self.servers.len() < MAX_SERVERS),
+                (1, partition <= u64::from(MAX_PARTITION)),
+                (3, priority_in_bounds(priority)),
+                (4, period >= tick && period <= longest),
+                (5, n <= period),
+                (6, d1 <= period),
+                (7, d2 <= period),
+            ],
+        )?;
+        expect(
+            NOT_WHOLE_TICKS,
+            &[
+                (4, period % tick == 0),
+                (5, n % tick == 0),
+                (6, d1 % tick == 0),
+                (7, d2 % tick == 0),
+            ],
+        )?;
 
         self.servers.push(Server {
             partition: partition as u32,
@@ -176,22 +249,26 @@ impl Reader {
         Ok(())
     }
 
-    fn take_task(&mut self, line: TaskLine, tick: u64) -> Result<(), u8> {
+    fn take_task(&mut self, line: TaskLine, tick: u64) -> Result<(), Fault> {
         let TaskLine { home, degraded, priority, level, limit } = line;
 
         // Limits are rounded up to ticks before anything is compared.
         let limit = limit.map(|time| time.div_ceil(tick));
-        let in_bounds = self.tasks.len() < MAX_TASKS
-            && priority_in_bounds(priority)
-            && limit.iter().all(|&ticks| ticks >= 1 && ticks <= u64::from(MAX_LIMIT));
-        if !in_bounds {
-            return Err(OUT_OF_BOUNDS);
+        let [n, d1, d2] = limit;
+        expect(
+            OUT_OF_BOUNDS,
+            &[
+                (THE_LINE, self.tasks.len() < MAX_TASKS),
+                (3, priority_in_bounds(priority)),
+                (5, limit_in_bounds(n)),
+                (6, limit_in_bounds(d1)),
+                (7, limit_in_bounds(d2)),
+            ],
+        )?;
+        if let Some(misfit) = misfit(&self.servers, home, degraded) {
+            return Err(fault_of(misfit));
         }
-
-        let falling = limit[0] > limit[1] || limit[1] > limit[2];
-        if falling || !servers_fit(&self.servers, home, degraded) {
-            return Err(WRONG_ROW);
-        }
+        expect(FALLING_LIMITS, &[(6, n <= d1), (7, d1 <= d2)])?;
 
         self.tasks.push(Task {
             home: home as u32,
@@ -217,6 +294,22 @@ fn priority_in_bounds(priority: u64) -> bool {
     priority >= 1 && priority <= u64::from(MAX_PRIORITY)
 }
 
+fn limit_in_bounds(ticks: u64) -> bool {
+    ticks >= 1 && ticks <= u64::from(MAX_LIMIT)
+}
+
+/// Home and degraded server are fields 1 and 2 of a task. Where the two do not
+/// go together the later is told.
+fn fault_of(misfit: Misfit) -> Fault {
+    match misfit {
+        Misfit::HomeAbsent => Fault::new(ABSENT_ROW, 1),
+        Misfit::DegradedAbsent => Fault::new(ABSENT_ROW, 2),
+        Misfit::OtherPartition => Fault::new(OTHER_PARTITION, 2),
+        Misfit::NotTimed => Fault::new(NOT_TIMED, 2),
+        Misfit::NotTheHome => Fault::new(NOT_THE_HOME, 2),
+    }
+}
+
 fn check_priorities(table: &Table) -> Result<(), Refusal> {
     let servers: Vec<u32> = table.servers.iter().map(|server| server.priority).collect();
     let tasks: Vec<u32> = table.tasks.iter().map(|task| task.priority).collect();
@@ -228,7 +321,7 @@ fn check_priorities(table: &Table) -> Result<(), Refusal> {
             return Err(Refusal {
                 number: EQUAL_PRIORITIES,
                 line: first_line + smaller,
-                second_line: Some(first_line + larger),
+                with: With::SecondLine(first_line + larger),
             });
         }
     }

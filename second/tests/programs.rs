@@ -82,10 +82,38 @@ fn answers_are_printed() {
     prints(&["night", &table, "-"], b"R\t0\nT\t0", "R\t0\tok\n?\tno\t1\n");
     prints(&["night", &table, "-"], b"", "");
     for program in ["verdicts", "rewrite"] {
-        prints(&[program, "-"], b"", "table\tno\t1\t1\n");
-        prints(&[program, "-"], &[b'\n'; 16_385], "table\tno\t2\t0\n");
+        prints(&[program, "-"], b"", "table\tno\t1\t1\t0\n");
+        prints(&[program, "-"], &[b'\n'; 16_385], "table\tno\t2\t0\t0\n");
     }
-    prints(&["night", "-", &table], b"tick\t0\n", "table\tno\t2\t1\n");
+    prints(&["night", "-", &table], b"tick\t0\n", "table\tno\t2\t1\t1\n");
+}
+
+#[test]
+fn every_program_tells_the_field() {
+    let events = file("events-for-fields", b"T\t0\n");
+    let refusals = [
+        (("timed\t10\t40000", "timed\t10\t040000"), "1\t4\t4"),
+        (("task\t0\t1", "task\t0\t1\t1"), "1\t5\t0"),
+        (("8000\t8000\t4000", "8000\t8000\t40001"), "2\t4\t7"),
+        (("8000\t8000\t4000", "8000\t8001\t4000"), "3\t4\t6"),
+        (("task\t0\t1", "task\t0\t3"), "41\t5\t2"),
+        (("task\t0\t1", "task\t0\t2"), "42\t5\t2"),
+        (("task\t0\t1", "task\t0\t0"), "43\t5\t2"),
+        (("0\tevent", "0\ttimed"), "44\t5\t2"),
+        (("1000\t2000\t3000", "3000\t2000\t3000"), "45\t5\t6"),
+        // Both lines, and no field.
+        (("timed\t10", "timed\t20"), "5\t3\t4"),
+    ];
+    for ((from, to), refusal) in refusals {
+        let table = EXAMPLE.replace(from, to).into_bytes();
+        let line = format!("table\tno\t{refusal}\n");
+        for program in ["night", "report"] {
+            prints(&[program, "-", &events], &table, &line);
+        }
+        for program in ["verdicts", "rewrite"] {
+            prints(&[program, "-"], &table, &line);
+        }
+    }
 }
 
 #[test]
@@ -102,9 +130,9 @@ fn pages_are_printed() {
     // A refused table prints its line only, whatever the events are.
     for events in ["-", &events] {
         let empty = file("empty-for-pages", b"");
-        prints(&["report", &empty, events], b"T\t0\n", "table\tno\t1\t1\n");
+        prints(&["report", &empty, events], b"T\t0\n", "table\tno\t1\t1\t0\n");
     }
-    prints(&["report", "-", &events], b"tick\t0\n", "table\tno\t2\t1\n");
+    prints(&["report", "-", &events], b"tick\t0\n", "table\tno\t2\t1\t1\n");
     let equal = format!("{one}task\t0\t0\t1\tLO\t1\t1\t1\n");
     prints(&["report", "-", &events], equal.as_bytes(), "table\tno\t5\t3\t4\n");
 }

@@ -102,7 +102,7 @@ fn work(
             let output = &run.second.stdout;
             match *program {
                 "night" => {
-                    coverage.night(output);
+                    coverage.night(&case.table, output);
                     coverage.seams(&case.events, output);
                 }
                 "report" => coverage.page(&case.table, &case.events, output),

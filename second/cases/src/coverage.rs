@@ -1,16 +1,11 @@
 //! What was seen in the answers, counted over all cases.
 
+use std::cmp::Ordering;
 use std::collections::BTreeMap;
 
 /// The counts that must not be 0.
-const WANTED: [&str; 31] = [
+const WANTED: [&str; 25] = [
     "table taken",
-    "table no 1",
-    "table no 2",
-    "table no 2 at line 0",
-    "table no 3",
-    "table no 4",
-    "table no 5",
     "event no 1",
     "release ok",
     "release no 6",
@@ -35,6 +30,88 @@ const WANTED: [&str; 31] = [
     "no events",
     "verdict response",
     "verdict misses",
+];
+
+/// The refusals of tables that must be told, by number, field and kind of line.
+/// A field 0 is told apart by its causes instead, as [`cause_of_1`] has them.
+const FIELDS: [(&str, &str, &[usize]); 12] = [
+    ("1", "tick", &[1]),
+    ("1", "server", &[1, 2, 3, 4, 5, 6, 7]),
+    ("1", "task", &[1, 2, 3, 4, 5, 6, 7]),
+    ("2", "tick", &[1]),
+    ("2", "server", &[1, 3, 4, 5, 6, 7]),
+    ("2", "task", &[3, 5, 6, 7]),
+    ("3", "server", &[4, 5, 6, 7]),
+    ("41", "task", &[1, 2]),
+    ("42", "task", &[2]),
+    ("43", "task", &[2]),
+    ("44", "task", &[2]),
+    ("45", "task", &[6, 7]),
+];
+/// The causes of a field 0, and the kinds of line of 5.
+const CAUSES: [&str; 17] = [
+    "table no 1 at 0: leading word",
+    "table no 1 at 0: too few fields of a tick line",
+    "table no 1 at 0: too few fields of a server line",
+    "table no 1 at 0: too few fields of a task line",
+    "table no 1 at 0: too many fields of a tick line",
+    "table no 1 at 0: too many fields of a server line",
+    "table no 1 at 0: too many fields of a task line",
+    "table no 1 at 0: misplaced tick line",
+    "table no 1 at 0: misplaced server line",
+    "table no 1 at 0: misplaced task line",
+    "table no 1 at 0: missing line",
+    "table no 1 at 0: unclosed line",
+    "table no 2 at 0: text too long",
+    "table no 2 at 0: server row too many",
+    "table no 2 at 0: task row too many",
+    "table no 5 of server lines",
+    "table no 5 of task lines",
+];
+
+/// The damages with two faults that must be made, as [`made`] has them. A 0
+/// on the left stands for the line itself.
+const MADE: [&str; 40] = [
+    "made: on one line, 0 left of 1",
+    "made: on one line, 0 left of 2",
+    "made: on one line, 0 left of 3",
+    "made: on one line, 0 left of 41 to 45",
+    "made: on one line, 1 left of 1",
+    "made: on one line, 1 left of 2",
+    "made: on one line, 1 left of 3",
+    "made: on one line, 1 left of 41 to 45",
+    "made: on one line, 2 left of 1",
+    "made: on one line, 2 left of 2",
+    "made: on one line, 2 left of 3",
+    "made: on one line, 2 left of 41 to 45",
+    "made: on one line, 3 left of 1",
+    "made: on one line, 3 left of 2",
+    "made: on one line, 3 left of 3",
+    "made: on one line, 41 to 45 left of 1",
+    "made: on one line, 41 to 45 left of 2",
+    "made: on one line, 41 to 45 left of 41 to 45",
+    "made: both rows absent",
+    "made: 42 and 43 at once",
+    "made: 42 and 44 at once",
+    "made: 42, 43 and 44 at once",
+    "made: 43 and 44 at once",
+    "made: both pairs of limits fall",
+    "made: a second pair falls, the first only before rounding",
+    "made: 33rd server with 1",
+    "made: 33rd server with 2",
+    "made: 33rd server with 3",
+    "made: 65th task with 1",
+    "made: 65th task with 2",
+    "made: 65th task with 41 to 45",
+    "made: misplaced line with 1",
+    "made: misplaced line with 2",
+    "made: misplaced line with 3 or 41 to 45",
+    "made: unclosed line with a fault",
+    "made: on two lines, the smaller number above",
+    "made: on two lines, the greater number above",
+    "made: on two lines, one number",
+    "made: 5 and a fault of a line",
+    "made: a row too many and 5",
 ];
 
 /// The counts of `report`'s pages that must not be 0. Those above 1 are of rows,
@@ -98,21 +175,31 @@ const BATCH: Seam = Seam {
 
 #[derive(Default)]
 pub struct Coverage {
-    counts: BTreeMap<&'static str, u64>,
+    counts: BTreeMap<String, u64>,
 }
 
 impl Coverage {
-    fn count(&mut self, what: &'static str) {
-        *self.counts.entry(what).or_insert(0) += 1;
+    fn count(&mut self, what: &str) {
+        self.count_more(what, 1);
     }
 
-    pub fn add(&mut self, other: &Coverage) {
-        for (what, count) in &other.counts {
-            *self.counts.entry(what).or_insert(0) += count;
+    fn count_more(&mut self, what: &str, more: u64) {
+        match self.counts.get_mut(what) {
+            Some(count) => *count += more,
+            None => {
+                self.counts.insert(what.to_string(), more);
+            }
         }
     }
 
-    /// Counts a case by whether its table was taken, as its name has it.
+    pub fn add(&mut self, other: &Coverage) {
+        for (what, &count) in &other.counts {
+            self.count_more(what, count);
+        }
+    }
+
+    /// Counts a case by its name: what two faults it has, if any, and whether its
+    /// table was taken.
     pub fn case(&mut self, name: &str, night: &[u8]) {
         let good = name.starts_with("good-");
         let taken = !night.starts_with(b"table\t");
@@ -122,10 +209,13 @@ impl Coverage {
             (false, true) => "damaged table taken",
             (false, false) => "damaged table refused",
         });
+        for what in made(name) {
+            self.count(&format!("made: {what}"));
+        }
     }
 
     /// Counts the answers of a night.
-    pub fn night(&mut self, output: &[u8]) {
+    pub fn night(&mut self, table: &[u8], output: &[u8]) {
         let text = String::from_utf8_lossy(output);
         if text.is_empty() {
             self.count("no events");
@@ -134,8 +224,8 @@ impl Coverage {
         for line in text.lines() {
             let fields: Vec<&str> = line.split('\t').collect();
             match fields.as_slice() {
-                ["table", "no", number, at, ..] => {
-                    self.table_refused(number, at);
+                ["table", "no", number, line, last] => {
+                    self.table_refused(table, number, line, last);
                     return;
                 }
                 ["?", "no", "1"] => self.count("event no 1"),
@@ -154,16 +244,17 @@ impl Coverage {
         self.count("table taken");
     }
 
-    fn table_refused(&mut self, number: &str, at: &str) {
-        self.count(match (number, at) {
-            ("1", _) => "table no 1",
-            ("2", "0") => "table no 2 at line 0",
-            ("2", _) => "table no 2",
-            ("3", _) => "table no 3",
-            ("4", _) => "table no 4",
-            ("5", _) => "table no 5",
-            _ => "other answers",
-        });
+    fn table_refused(&mut self, table: &[u8], number: &str, line: &str, last: &str) {
+        let line: usize = line.parse().unwrap_or(0);
+        let word = word_of(lines_of(table).nth(line.wrapping_sub(1)).unwrap_or(b""));
+        let what = match (number, last) {
+            ("5", _) => format!("of {word} lines"),
+            ("1", "0") => format!("at 0: {}", cause_of_1(table, line)),
+            ("2", "0") if line == 0 => "at 0: text too long".to_string(),
+            ("2", "0") => format!("at 0: {word} row too many"),
+            _ => format!("at {last} of a {word} line"),
+        };
+        self.count(&format!("table no {number} {what}"));
     }
 
     fn tick(&mut self, mode_before: &str, mode: &str, what: &str, how: &str, discarded: &str) {
@@ -275,7 +366,7 @@ impl Coverage {
         }
     }
 
-    fn above_1(&mut self, what: &'static str, number: &str) {
+    fn above_1(&mut self, what: &str, number: &str) {
         match number.parse::<u64>() {
             Ok(0 | 1) => {}
             Ok(number) => {
@@ -317,11 +408,18 @@ impl Coverage {
     /// Prints all counts; gives whether none of the wanted is 0. What stands at
     /// the seams, and long pages, are wanted of long nights only.
     pub fn print(&self, long: bool) -> bool {
-        println!("seen in the answers:");
-        let mut wanted = [&WANTED[..], &PAGES[..]].concat();
+        println!("made in the cases and seen in the answers:");
+        let mut wanted: Vec<String> = Vec::new();
+        for (number, word, fields) in FIELDS {
+            for field in fields {
+                wanted.push(format!("table no {number} at {field} of a {word} line"));
+            }
+        }
+        let others = [&CAUSES[..], &MADE[..], &WANTED[..], &PAGES[..]].concat();
+        wanted.extend(others.into_iter().map(String::from));
         if long {
-            wanted.extend(LONG_PAGES);
-            wanted.extend(READ.counts.iter().chain(&WRITTEN.counts).chain(&BATCH.counts[..3]));
+            let seams = READ.counts.iter().chain(&WRITTEN.counts).chain(&BATCH.counts[..3]);
+            wanted.extend(LONG_PAGES.iter().chain(seams).map(|what| what.to_string()));
         }
         let mut complete = true;
         for what in &wanted {
@@ -347,6 +445,112 @@ fn has_server(table: &[u8], kind: &str) -> bool {
     })
 }
 
+/// Why a line is 1 as a line. The lines before it are good.
+fn cause_of_1(table: &[u8], number: usize) -> String {
+    let lines: Vec<&[u8]> = lines_of(table).collect();
+    let Some(line) = lines.get(number - 1) else { return "missing line".to_string() };
+    let Some(line) = line.strip_suffix(b"\n") else { return "unclosed line".to_string() };
+    let word = word_of(line);
+    let Some(&(_, count)) = KINDS.iter().find(|(kind, _)| *kind == word) else {
+        return "leading word".to_string();
+    };
+    let before = if number > 1 { word_of(lines[number - 2]) } else { "" };
+    let in_place = matches!(
+        (before, word),
+        ("", "tick") | ("tick" | "server", "server") | ("server" | "task", "task")
+    );
+    let fields = line.iter().filter(|&&byte| byte == b'\t').count();
+    if !in_place {
+        format!("misplaced {word} line")
+    } else if fields < count {
+        format!("too few fields of a {word} line")
+    } else {
+        format!("too many fields of a {word} line")
+    }
+}
+
+/// The kinds of line with the count of their fields.
+const KINDS: [(&str, usize); 3] = [("tick", 1), ("server", 7), ("task", 7)];
+
+/// The leading word of a line if it is one.
+fn word_of(line: &[u8]) -> &'static str {
+    let line = line.strip_suffix(b"\n").unwrap_or(line);
+    let first = line.split(|&byte| byte == b'\t').next().unwrap_or(b"");
+    KINDS.iter().map(|(word, _)| *word).find(|word| word.as_bytes() == first).unwrap_or("strange")
+}
+
+/// What a damage with two faults is after, by its name.
+fn made(name: &str) -> Vec<String> {
+    let mut all = Vec::new();
+    if let Some((left, right)) = pair_of(name, "pair-one-line-") {
+        let left_group = if field_of(left) == "0" { "0" } else { group_of(left) };
+        all.push(format!("on one line, {left_group} left of {}", group_of(right)));
+        if left.starts_with("41-") && right.starts_with("41-") {
+            all.push("both rows absent".to_string());
+        }
+        if left.starts_with("45-") && right.starts_with("45-") {
+            all.push("both pairs of limits fall".to_string());
+        }
+        return all;
+    }
+    if let Some((upper, lower)) = pair_of(name, "pair-two-lines-") {
+        let (upper, lower) = (group_of(upper), group_of(lower));
+        let what = match upper.cmp(lower) {
+            _ if upper == "5" => "5 and a fault of a line",
+            Ordering::Less => "on two lines, the smaller number above",
+            Ordering::Equal => "on two lines, one number",
+            Ordering::Greater => "on two lines, the greater number above",
+        };
+        return vec![what.to_string()];
+    }
+    if let Some((first, fault)) = pair_of(name, "") {
+        let group = group_of(fault);
+        all.push(match first {
+            "2-33rd-server" | "2-65th-task" if group == "5" => "a row too many and 5".to_string(),
+            "2-33rd-server" => format!("33rd server with {group}"),
+            "2-65th-task" => format!("65th task with {group}"),
+            _ if first.starts_with("1-unclosed") => "unclosed line with a fault".to_string(),
+            _ if !first.starts_with("1-misplaced") => return all,
+            _ if matches!(group, "1" | "2") => format!("misplaced line with {group}"),
+            _ => "misplaced line with 3 or 41 to 45".to_string(),
+        });
+        return all;
+    }
+    let what = match name {
+        "41-task-1-both-absent" => "both rows absent",
+        "42-task-2-elsewhere-event" => "42 and 43 at once",
+        "42-task-2-elsewhere-not-home" => "42 and 44 at once",
+        "42-task-2-elsewhere-event-not-home" => "42, 43 and 44 at once",
+        "43-task-2-event-not-home" => "43 and 44 at once",
+        "45-task-6-twice" => "both pairs of limits fall",
+        "45-task-7-d1-d2-rounded" => "a second pair falls, the first only before rounding",
+        _ => return all,
+    };
+    all.push(what.to_string());
+    all
+}
+
+/// The two parts of a name after a prefix.
+fn pair_of<'a>(name: &'a str, prefix: &str) -> Option<(&'a str, &'a str)> {
+    name.strip_prefix(prefix)?.split_once("-and-")
+}
+
+/// The number a fault is after, by its name.
+fn group_of(fault: &str) -> &'static str {
+    match fault.split('-').next() {
+        Some("1") => "1",
+        Some("2") => "2",
+        Some("3") => "3",
+        Some("5") => "5",
+        _ => "41 to 45",
+    }
+}
+
+/// The field a fault of a line is after, by its name.
+fn field_of(fault: &str) -> &str {
+    fault.split('-').nth(2).unwrap_or("")
+}
+
 fn lines_of(text: &[u8]) -> impl Iterator<Item = &[u8]> {
     text.split_inclusive(|&byte| byte == b'\n')
 }
@@ -357,5 +561,76 @@ fn kind_of(letter: u8) -> usize {
         b'R' => 0,
         b'T' => 1,
         _ => 2,
+    }
+}
+
+#[cfg(test)]
+mod tests {
+    use super::{cause_of_1, made, Coverage, MADE};
+    use crate::case::Case;
+
+    #[test]
+    fn the_default_cases_make_every_pair_of_faults() {
+        let mut coverage = Coverage::default();
+        for number in 0..2000 {
+            coverage.case(&Case::make(1, number).name, b"");
+        }
+        for what in MADE {
+            assert!(coverage.counts.contains_key(what), "{what}");
+        }
+    }
+
+    #[test]
+    fn pairs_by_their_names() {
+        let one_line = "pair-one-line-2-server-1-partition-and-1-server-5-plus";
+        assert_eq!(made(one_line), ["on one line, 2 left of 1"]);
+        let line_itself = "pair-one-line-1-task-0-first-word-and-45-task-6-n-d1";
+        assert_eq!(made(line_itself), ["on one line, 0 left of 41 to 45"]);
+        let two_lines = "pair-two-lines-43-task-2-event-and-1-task-0-tab-at-end";
+        assert_eq!(made(two_lines), ["on two lines, the greater number above"]);
+        assert_eq!(made("2-65th-task-and-42-task-2-elsewhere"), ["65th task with 41 to 45"]);
+        assert_eq!(made("2-65th-task-with-42-task-2-elsewhere").len(), 0);
+        assert_eq!(made("3-server-4-period").len(), 0);
+    }
+
+    #[test]
+    fn refusals_by_number_field_and_line() {
+        let table = b"tick\t1\nserver\t0\ttimed\t1\t1\t1\t1\t1\ntask\t0\nservers\n";
+        let mut coverage = Coverage::default();
+        for answer in ["2\t2\t5", "2\t2\t0", "2\t0\t0", "45\t3\t7", "1\t3\t0", "5\t2\t3"] {
+            coverage.night(table, format!("table\tno\t{answer}\n").as_bytes());
+        }
+        let counted: Vec<&str> = coverage.counts.keys().map(String::as_str).collect();
+        let expected = [
+            "table no 1 at 0: too few fields of a task line",
+            "table no 2 at 0: server row too many",
+            "table no 2 at 0: text too long",
+            "table no 2 at 5 of a server line",
+            "table no 45 at 7 of a task line",
+            "table no 5 of server lines",
+        ];
+        assert_eq!(counted, expected);
+    }
+
+    #[test]
+    fn causes_of_1() {
+        let server = "server\t0\ttimed\t1\t1\t1\t1\t1\n";
+        let causes = [
+            ("".to_string(), 1, "missing line"),
+            ("tick\t1\n".to_string(), 2, "missing line"),
+            ("tick\t1".to_string(), 1, "unclosed line"),
+            ("tick\t1\nserver".to_string(), 2, "unclosed line"),
+            ("ticks\t1\n".to_string(), 1, "leading word"),
+            ("\n".to_string(), 1, "leading word"),
+            ("tick\n".to_string(), 1, "too few fields of a tick line"),
+            ("tick\t1\t\n".to_string(), 1, "too many fields of a tick line"),
+            ("tick\t1\ntask\t0\n".to_string(), 2, "misplaced task line"),
+            (format!("tick\t1\n{server}tick\n"), 3, "misplaced tick line"),
+            (server.to_string(), 1, "misplaced server line"),
+            (format!("tick\t1\n{server}task\t0\n"), 3, "too few fields of a task line"),
+        ];
+        for (text, line, cause) in causes {
+            assert_eq!(cause_of_1(text.as_bytes(), line), cause, "{text:?}");
+        }
     }
 }

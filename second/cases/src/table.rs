@@ -140,12 +140,13 @@ pub fn rich(random: &mut Random) -> Table {
         }
         table.tick = tick;
     }
-    // An event server with two timed ones beside it, a timed one elsewhere.
-    for (row, partition, timed) in [(0, 0, false), (1, 0, true), (2, 0, true), (3, 1, true)] {
+    // An event server with two timed ones beside it, one of each kind elsewhere.
+    let rows = [(0, 0, false), (1, 0, true), (2, 0, true), (3, 1, true), (4, 1, false)];
+    for (row, partition, timed) in rows {
         table.servers[row].partition = partition;
         table.servers[row].timed = timed;
     }
-    for row in 4..table.servers.len() {
+    for row in rows.len()..table.servers.len() {
         table.servers[row].partition = random.within(0, 1);
     }
     for row in 0..table.tasks.len() {
