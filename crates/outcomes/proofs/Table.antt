@@ -9,6 +9,8 @@ use Rattle.table.proofs.in_mode
 use Rattle.table.proofs.largest_of
 use Rattle.table.proofs.is_low
 use Rattle.table.proofs.is_d2
+use Rattle.table.proofs.row_in
+use Rattle.table.proofs.rows_fault
 use Rattle.table.proofs.task_fault
 use Rattle.table.proofs.table_keeps
 use Rattle.outcomes.specs.OneOutcome.{OneOutcome}
@@ -37,6 +39,12 @@ is-low-settled = settled (λ κs a. tt) (λ κs a x y p q. (p ∙ sym q, refl))
 
 pub is-d2-settled : OneOutcome is_d2.Kinds.ps is_d2.Kinds.r is_d2.Reads.Asked is_d2.Reads.Learnt
 is-d2-settled = settled (λ κs a. tt) (λ κs a x y p q. (p ∙ sym q, refl))
+
+pub row-in-settled : OneOutcome row_in.Kinds.ps row_in.Kinds.r row_in.Reads.Asked row_in.Reads.Learnt
+row-in-settled = settled (λ κs a. tt) (λ κs a x y p q. (p ∙ sym q, refl))
+
+pub rows-fault-settled : OneOutcome rows_fault.Kinds.ps rows_fault.Kinds.r rows_fault.Reads.Asked rows_fault.Reads.Learnt
+rows-fault-settled = settled (λ κs a. tt) (λ κs a x y p q. (p ∙ sym q, refl))
 
 pub task-fault-settled : OneOutcome task_fault.Kinds.ps task_fault.Kinds.r task_fault.Reads.Asked task_fault.Reads.Learnt
 task-fault-settled = settled (λ κs a. tt) (λ κs a x y p q. (p ∙ sym q, refl))

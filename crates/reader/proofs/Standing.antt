@@ -1,66 +1,60 @@
--- How a line stands, by the counts of the rows above it, and what the bounds mean for its row.
--- Assumes nothing.
-use mathlib.Core.Path.{_≡_, refl}
-use mathlib.Core.Bool.{true, false}
-use Prim.Native.Nat.{ℕ, _*_, _≤_}
+-- How a line stands, by the counts of the rows above it and the two rows that it names, and what
+-- the bounds mean for its row. Assumes nothing.
+use mathlib.Core.Path.{_≡_}
+use mathlib.Core.Bool.{true}
+use Prim.Native.Nat.{ℕ, _*_, _≤_, _<_}
 use native.Mathlib.Omega.{arith}
 use Rattle.laws.specs.Choice.{every}
 use Rattle.laws.specs.Search.{least, firstFailed}
 use Rattle.laws.specs.RoundUp.{up}
 use Rattle.laws.proofs.Choice.{within-high, every-at}
-use Rattle.units.specs.declared.Micros.{Micros}
-use Rattle.table.specs.declared.Refusal.the-variants.{Malformed}
-use Rattle.table.specs.declared.Standing.the-variants.{Broken}
 use Rattle.table.specs.declared.Table.{Table}
-use Rattle.table.specs.Rows.{Rows, rowsOf, tableOf}
+use Rattle.table.specs.Rows.{rowsOf, serverAt}
 use Rattle.table.specs.Rules.{taskKeeps}
+use Rattle.table.proofs.Rules.{place-below, rows-read}
 use Rattle.text.specs.declared.ServerLine.{ServerLine}
 use Rattle.text.specs.declared.TaskLine.{TaskLine}
-use Rattle.text.specs.declared.Word.{Word}
-use Rattle.text.specs.declared.Word.the-variants.{ATick, AServer, ATask, Unknown}
+use Rattle.text.specs.declared.Word.the-variants.{ATick, AServer, ATask}
 use Rattle.text.specs.declared.Line.{Line}
 use Rattle.text.specs.declared.Line.the-variants.{OfTick, OfServer, OfTask, Malformed as MalformedLine}
-use Rattle.text.specs.Line.{wordOf}
-use Rattle.text.specs.Standing.{placed, serverBounds, bounds, wholes, taskOf, fault, standing}
-use Rattle.reader.specs.Inner.{FewTicks, placedBy, tickStanding, serverStanding, taskStanding}
-use Rattle.reader.proofs.Inner.{nil-is, servers-count, tasks-count}
+use Rattle.text.specs.Standing.{serverBounds, bounds, wholes, limitsOf, taskOf, fault, standing}
+use Rattle.reader.specs.Inner.{Above, FewTicks, rowNamed, homeRow, degradedRow, standingBy}
+use Rattle.reader.proofs.Inner.{servers-count, tasks-count, servers-length, placed-by}
 use Rattle.text.proofs.Bounds.{server-within}
 
--- what is asked of the rows above is how many there are
-module _ (n : ℕ) (t : Table) (whole : t ≡ tableOf (rowsOf t)) where
-  pub placed-by : (word : Word) →
-      placedBy n (t .nservers) (t .ntasks) word ≡ placed n (rowsOf t) word
-  unfolding placed
-  placed-by ATick = refl
-  placed-by AServer = rw (nil-is (rowsOf t .tasks), tasks-count t whole)
-  placed-by ATask = rw (nil-is (rowsOf t .servers), servers-count t whole)
-  placed-by Unknown = refl
+-- where a row is read there is one
+pub named-below : (which : TaskLine → ℕ) (l : Line) → rowNamed which l < 32
+named-below which (OfTick u) = omega arith
+named-below which (OfServer s) = omega arith
+named-below which (OfTask k) = place-below (which k)
+named-below which (MalformedLine word field) = omega arith
 
-  pub server-stands : (s : ServerLine) → placed n (rowsOf t) AServer ≡ true →
-      serverStanding (t .tick .0) (t .nservers) s ≡ standing n (rowsOf t) (OfServer s)
-  unfolding standing bounds wholes fault
-  server-stands s e = rw (e, servers-count t whole)
-
-  pub task-stands : (k : TaskLine) → placed n (rowsOf t) ATask ≡ true →
-      taskStanding (t .tick .0) (t .servers) (t .nservers) (t .ntasks) k
-      ≡ standing n (rowsOf t) (OfTask k)
-  unfolding standing bounds wholes fault firstFailed least
-  task-stands k e = rw (e, tasks-count t whole)
-
-pub tick-stands : (n : ℕ) (a : Rows) (u : Micros) → placed n a ATick ≡ true →
-    tickStanding u ≡ standing n a (OfTick u)
+-- what is asked of the rows above is how many there are, and for a task the two that it names
+pub standing-by : (n : ℕ) (t : Table) → Above n t → (l : Line) (i j : ℕ) → i ≡ homeRow l →
+    j ≡ degradedRow l →
+    standingBy n (t .tick .0) (t .nservers) (t .ntasks) (serverAt t i) (serverAt t j) l
+    ≡ standing n (rowsOf t) l
 unfolding standing bounds wholes fault firstFailed least
-tick-stands n a u e = rw e
-
-pub misplaced-stands : (n : ℕ) (a : Rows) (l : Line) → placed n a (wordOf l) ≡ false →
-    Broken Malformed 0 ≡ standing n a l
-unfolding standing
-misplaced-stands n a l e = rw e
-
-pub malformed-stands : (n : ℕ) (a : Rows) (word : Word) (field : ℕ) → placed n a word ≡ true →
-    Broken Malformed field ≡ standing n a (MalformedLine word field)
-unfolding standing
-malformed-stands n a word field e = rw e
+standing-by n t r (OfTick u) i j e f = rw (placed-by t (r .whole) n ATick)
+standing-by n t r (OfServer s) i j e f =
+    rw (placed-by t (r .whole) n AServer, servers-count t (r .whole))
+standing-by n t r (OfTask k) i j e f =
+    rw (
+      e,
+      f,
+      placed-by t (r .whole) n ATask,
+      tasks-count t (r .whole),
+      rows-read
+          (t .servers)
+          (t .nservers)
+          (t .nservers)
+          (k .home)
+          (k .degraded)
+          (limitsOf (t .tick .0) (k .limit))
+          (servers-length t (r .whole) (r .servers))
+          (omega (arith, r .servers)),
+    )
+standing-by n t r (MalformedLine word field) i j e f = rw (placed-by t (r .whole) n word)
 
 -- what the bounds say of the numbers of a row, in ticks
 pub record ServerFits (t : ℕ) (s : ServerLine) : Type 0 where

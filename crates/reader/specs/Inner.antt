@@ -4,21 +4,21 @@
 pub mod Fields
 use mathlib.Core.Path.{_≡_}
 use mathlib.Core.Bool.{Bool, true, false, not, _&&_}
-use mathlib.Core.List.{List, [], _∷_}
+use mathlib.Core.List.{[], _∷_}
 use Prim.Native.Nat.{ℕ, _≤_, _<_}
 use lib.Dec.{ltb, eqb}
-use lib.ListN.{take}
-use Rattle.laws.specs.Choice.{every}
+use Rattle.laws.specs.Choice.{unless_say_else_}
 use Rattle.laws.specs.Search.{firstFailed}
 use Rattle.laws.specs.RoundUp.{up}
 use Rattle.units.specs.declared.Micros.{Micros}
 use Rattle.table.specs.declared.Server.{Server}
 use Rattle.table.specs.declared.Table.{Table}
-use Rattle.table.specs.declared.Refusal.the-variants.{OutOfBounds, NotWhole}
+use Rattle.table.specs.declared.Refusal.the-variants.{Malformed, OutOfBounds, NotWhole}
 use Rattle.table.specs.declared.Standing.{Standing}
-use Rattle.table.specs.declared.Standing.the-variants.{Kept}
+use Rattle.table.specs.declared.Standing.the-variants.{Kept, Broken}
 use Rattle.table.specs.Rows.{rowsOf, tableOf}
-use Rattle.table.specs.Rules.{tickKeeps, taskFault}
+use Rattle.table.specs.Rules.{tickKeeps}
+use Rattle.table.specs.Inner.{placeIn, rowsFault}
 use Rattle.text.specs.declared.Times.{Times}
 use Rattle.text.specs.declared.ServerLine.{ServerLine}
 use Rattle.text.specs.declared.TaskLine.{TaskLine}
@@ -26,6 +26,7 @@ use Rattle.text.specs.declared.Word.{Word}
 use Rattle.text.specs.declared.Word.the-variants.{ATick, AServer, ATask, Unknown}
 use Rattle.text.specs.declared.Line.{Line}
 use Rattle.text.specs.declared.Line.the-variants.{OfTick, OfServer, OfTask, Malformed as NoForm}
+use Rattle.text.specs.Line.{wordOf}
 use Rattle.text.specs.Standing.{anything, serverBounds, serverWhole, taskBounds, limitsOf, tell_at_or_}
 
 -- The table holds the rows above line n and nothing else. All lines but the first stand below a
@@ -41,19 +42,6 @@ pub record Above (n : ℕ) (t : Table) : Type 0 where
 abbrev pub FewTicks : ℕ → Times → Type 0
 FewTicks t x = (up (x .n .0) t ≤ 100000) × (up (x .d1 .0) t ≤ 100000) × (up (x .d2 .0) t ≤ 100000)
 
--- A line's row has room in the table, and its numbers in the row.
-abbrev pub Grows : Table → Line → Type 0
-Grows t (OfTick u) = t ≡ tableOf (rowsOf t)
-Grows t (OfServer s) =
-    (t ≡ tableOf (rowsOf t)) × (0 < t .tick .0) × (every (serverBounds (t .nservers) (t .tick .0) s) ≡ true)
-Grows t (OfTask k) =
-    (t ≡ tableOf (rowsOf t))
-    × (0 < t .tick .0)
-    × (every (taskBounds (t .ntasks) (t .tick .0) k) ≡ true)
-    × (k .home < 32)
-    × (k .degraded < 32)
-Grows t (NoForm word field) = t ≡ tableOf (rowsOf t)
-
 -- What `placed` asks of the rows above is how many there are.
 abbrev pub placedBy : ℕ → ℕ → ℕ → Word → Bool
 placedBy n servers tasks ATick = eqb n 1
@@ -62,7 +50,7 @@ placedBy n servers tasks ATask = not (eqb servers 0)
 placedBy n servers tasks Unknown = false
 
 -- What `standing` says of each kind of line in its place, by what it asks of the rows above: how
--- many there are, and for a task the servers.
+-- many there are, and for a task what was read for the two that it names.
 abbrev pub tickStanding : Micros → Standing
 tickStanding u = tell OutOfBounds at firstFailed (anything ∷ tickKeeps (u .0) ∷ []) or Kept
 
@@ -72,7 +60,32 @@ serverStanding tick servers s =
     or tell NotWhole at firstFailed (serverWhole tick s)
     or Kept
 
-abbrev pub taskStanding : ℕ → List Server → ℕ → ℕ → TaskLine → Standing
-taskStanding tick ss count tasks k =
+abbrev pub taskStanding : ℕ → Server → Server → ℕ → ℕ → TaskLine → Standing
+taskStanding tick h d count tasks k =
     tell OutOfBounds at firstFailed (taskBounds tasks tick k)
-    or taskFault (take count ss) (k .home) (k .degraded) (limitsOf tick (k .limit))
+    or rowsFault count h d (k .home) (k .degraded) (limitsOf tick (k .limit))
+
+-- Where the rows that a task line names are read. Other lines name none: row 0 is read.
+abbrev pub rowNamed : (TaskLine → ℕ) → Line → ℕ
+rowNamed which (OfTick u) = 0
+rowNamed which (OfServer s) = 0
+rowNamed which (OfTask k) = placeIn (which k)
+rowNamed which (NoForm word field) = 0
+
+abbrev pub homeRow : Line → ℕ
+homeRow = rowNamed (λ k. k .home)
+
+abbrev pub degradedRow : Line → ℕ
+degradedRow = rowNamed (λ k. k .degraded)
+
+-- A line in its place, and a line anywhere.
+abbrev pub inPlace : ℕ → ℕ → ℕ → Server → Server → Line → Standing
+inPlace tick servers tasks h d (OfTick u) = tickStanding u
+inPlace tick servers tasks h d (OfServer s) = serverStanding tick servers s
+inPlace tick servers tasks h d (OfTask k) = taskStanding tick h d servers tasks k
+inPlace tick servers tasks h d (NoForm word field) = Broken Malformed field
+
+abbrev pub standingBy : ℕ → ℕ → ℕ → ℕ → Server → Server → Line → Standing
+standingBy n tick servers tasks h d l =
+    unless placedBy n servers tasks (wordOf l) say Broken Malformed 0
+    else inPlace tick servers tasks h d l

@@ -12,6 +12,7 @@ use table::Standing;
 use table::THE_LINE;
 use table::Table;
 use text::LONGEST_TEXT;
+use text::Line;
 use text::Read;
 use text::Reading;
 ghost use mathlib.Core.Path.{_≡_};
@@ -68,7 +69,9 @@ fn end(n: usize, t: Table) -> Read
 }
 
 // What a text says: its table, or why it is none. "a line begins anywhere in the lent text and is
-// read there": line n begins at `at`, and its part of the text is lent from the middle.
+// read there": line n begins at `at`, and its part of the text is lent from the middle. A line is
+// judged by the two rows that it names, and its row is put behind those in use: a table or an array
+// of rows handed to a function would be copied whole, for every line.
 pub fn read_table(text: &[u8]) -> Read
     ensures { λ r. ⌜ r ≡ shown (read (now (text .entry))) ⌝ }
 {
@@ -87,11 +90,32 @@ pub fn read_table(text: &[u8]) -> Read
             return end(n, t);
         }
         let l = forms::read_line(&text[at..e]);
-        let j = rules::line_standing(n, t, l);
-        if let Standing::Broken(why, field) = j {
+        let i = rules::home_row(l);
+        let j = rules::degraded_row(l);
+        let h = t.servers[i];
+        let d = t.servers[j];
+        let standing = rules::line_standing(n, t.tick, t.nservers, t.ntasks, h, d, l);
+        if let Standing::Broken(why, field) = standing {
             return refuse(why, n, field);
         }
-        t = rows::grow(t, l);
+        match l {
+            Line::OfTick(u) => {
+                t.tick = u;
+            }
+            Line::OfServer(s) => {
+                let count = t.nservers;
+                let tick = t.tick;
+                t.servers[count] = rows::server_row(count, tick, s);
+                t.nservers = count + 1;
+            }
+            Line::OfTask(k) => {
+                let count = t.ntasks;
+                let tick = t.tick;
+                t.tasks[count] = rows::task_row(tick, k);
+                t.ntasks = count + 1;
+            }
+            Line::Malformed(_, _) => {}
+        }
         at = e + 1;
         n += 1;
     }

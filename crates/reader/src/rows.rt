@@ -1,11 +1,9 @@
-// A line's row, put into the table: the one place where microseconds become ticks. Each function
-// asks that the line keeps the rules, so that every number fits its row.
+// A line's row: the one place where microseconds become ticks. Each function asks that the line
+// keeps the rules, so that every number fits its row.
 
 use table::ByMode;
 use table::Server;
-use table::Table;
 use table::Task;
-use text::Line;
 use text::ServerLine;
 use text::TaskLine;
 use text::Times;
@@ -16,10 +14,9 @@ ghost use mathlib.Core.Bool.{true};
 ghost use Prim.Native.Nat.{_*_, _≤_, _<_};
 ghost use Rattle.laws.specs.Choice.{every};
 ghost use Rattle.laws.specs.RoundUp.{up};
-ghost use Rattle.table.specs.Rows.{rowsOf, tableOf};
 ghost use Rattle.table.specs.Rules.{taskKeeps};
-ghost use Rattle.text.specs.Standing.{inTicks, serverOf, roundedUp, limitsOf, taskOf, serverBounds, grown};
-ghost use Rattle.reader.specs.Inner.{FewTicks, Grows};
+ghost use Rattle.text.specs.Standing.{inTicks, serverOf, roundedUp, limitsOf, taskOf, serverBounds};
+ghost use Rattle.reader.specs.Inner.{FewTicks};
 
 // "each rounded up to a tick". A time may be of more ticks than 32 bits hold: its bound is judged
 // before, in microseconds (rules::task_bounds), and only what is at most 100,000 ticks is rounded
@@ -54,7 +51,7 @@ pub(crate) fn limits(x: Times, tick: Micros) -> ByMode
     ByMode { n, d1, d2 }
 }
 
-fn task_row(tick: Micros, k: TaskLine) -> Task
+pub(crate) fn task_row(tick: Micros, k: TaskLine) -> Task
     requires { ⌜ (0 < tick .0) × (every (taskKeeps (taskOf (tick .0) k)) ≡ true) × (k .home < 32) × (k .degraded < 32) ⌝ }
     ensures { λ r. ⌜ r ≡ taskOf (tick .0) k ⌝ }
 {
@@ -70,7 +67,7 @@ fn task_row(tick: Micros, k: TaskLine) -> Task
     }
 }
 
-fn server_row(rows: usize, tick: Micros, s: ServerLine) -> Server
+pub(crate) fn server_row(rows: usize, tick: Micros, s: ServerLine) -> Server
     requires { ⌜ (0 < tick .0) × (every (serverBounds rows (tick .0) s) ≡ true) ⌝ }
     ensures { λ r. ⌜ r ≡ serverOf (tick .0) s ⌝ }
 {
@@ -87,33 +84,5 @@ fn server_row(rows: usize, tick: Micros, s: ServerLine) -> Server
         priority: s.priority as u8,
         period,
         capacity,
-    }
-}
-
-// The table with the row of a line that keeps the rules: it is put behind those in use.
-pub(crate) fn grow(mut t: Table, l: Line) -> Table
-    requires { ⌜ Grows t l ⌝ }
-    ensures { λ r. ⌜ r ≡ tableOf (grown (rowsOf t) l) ⌝ }
-{
-    match l {
-        Line::OfTick(u) => {
-            t.tick = u;
-            t
-        }
-        Line::OfServer(s) => {
-            let i = t.nservers;
-            let tick = t.tick;
-            t.servers[i] = server_row(i, tick, s);
-            t.nservers = i + 1;
-            t
-        }
-        Line::OfTask(k) => {
-            let i = t.ntasks;
-            let tick = t.tick;
-            t.tasks[i] = task_row(tick, k);
-            t.ntasks = i + 1;
-            t
-        }
-        Line::Malformed(_, _) => t,
     }
 }

@@ -12,7 +12,6 @@ use table::Server;
 use table::Standing;
 use table::TASKS;
 use table::THE_LINE;
-use table::Table;
 use text::Line;
 use text::ServerLine;
 use text::TaskLine;
@@ -22,11 +21,11 @@ ghost use mathlib.Core.Path.{_≡_};
 ghost use mathlib.Core.Bool.{true};
 ghost use Prim.Native.Nat.{_≤_, _<_};
 ghost use Rattle.laws.specs.Search.{firstFailed};
-ghost use Rattle.table.specs.Rows.{rowsOf};
 ghost use Rattle.table.specs.Rules.{tickKeeps};
 ghost use Rattle.text.specs.Line.{wordOf};
-ghost use Rattle.text.specs.Standing.{serverBounds, serverWhole, taskBounds, standing};
-ghost use Rattle.reader.specs.Inner.{Above, placedBy, tickStanding, serverStanding, taskStanding};
+ghost use Rattle.text.specs.Standing.{serverBounds, serverWhole, taskBounds};
+ghost use Rattle.reader.specs.Inner.{placedBy, tickStanding, serverStanding, taskStanding};
+ghost use Rattle.reader.specs.Inner.{homeRow, degradedRow, standingBy};
 
 fn server_bounds(rows: usize, tick: Micros, s: ServerLine) -> Found
     requires { ⌜ tick .0 ≤ 10000 ⌝ }
@@ -139,39 +138,69 @@ fn server_standing(tick: Micros, servers: usize, s: ServerLine) -> Standing
 
 fn task_standing(
     tick: Micros,
-    ss: [Server; SERVERS],
+    h: Server,
+    d: Server,
     count: usize,
     tasks: usize,
     k: TaskLine,
 ) -> Standing
     requires { ⌜ tickKeeps (tick .0) ≡ true ⌝ }
-    ensures { λ r. ⌜ r ≡ taskStanding (tick .0) ss count tasks k ⌝ }
+    ensures { λ r. ⌜ r ≡ taskStanding (tick .0) h d count tasks k ⌝ }
 {
     if let Found::At(field) = task_bounds(tasks, tick, k) {
         return Standing::Broken(Refusal::OutOfBounds, field);
     }
     let x = k.limit;
     let limit = rows::limits(x, tick);
-    table::task_fault(ss, count, k.home, k.degraded, limit)
+    table::rows_fault(count, h, d, k.home, k.degraded, limit)
 }
 
-// n is the line's number, t holds the rows above it. A misplaced line is told as the line itself,
-// whatever its fields hold.
-pub(crate) fn line_standing(n: usize, t: Table, l: Line) -> Standing
-    requires { ⌜ Above n t ⌝ }
-    ensures { λ r. ⌜ r ≡ standing n (rowsOf t) l ⌝ }
+// Where the two server rows that a task line names are read; a line that names none has row 0.
+pub(crate) fn home_row(l: Line) -> usize
+    ensures { λ r. ⌜ r ≡ homeRow l ⌝ }
+{
+    match l {
+        Line::OfTick(_) => 0,
+        Line::OfServer(_) => 0,
+        Line::OfTask(k) => table::row_in(k.home),
+        Line::Malformed(_, _) => 0,
+    }
+}
+
+pub(crate) fn degraded_row(l: Line) -> usize
+    ensures { λ r. ⌜ r ≡ degradedRow l ⌝ }
+{
+    match l {
+        Line::OfTick(_) => 0,
+        Line::OfServer(_) => 0,
+        Line::OfTask(k) => table::row_in(k.degraded),
+        Line::Malformed(_, _) => 0,
+    }
+}
+
+// n is the line's number. Of the rows above it these are the tick, how many servers and tasks there
+// are, and the rows h and d read for home and degraded server. A misplaced line is told as the line
+// itself, whatever its fields hold.
+pub(crate) fn line_standing(
+    n: usize,
+    tick: Micros,
+    servers: usize,
+    tasks: usize,
+    h: Server,
+    d: Server,
+    l: Line,
+) -> Standing
+    requires { ⌜ (n ≤ 1 → servers ≡ 0) × (1 < n → tickKeeps (tick .0) ≡ true) ⌝ }
+    ensures { λ r. ⌜ r ≡ standingBy n (tick .0) servers tasks h d l ⌝ }
 {
     let word = word_of(l);
-    if !is_placed(n, t.nservers, t.ntasks, word) {
+    if !is_placed(n, servers, tasks, word) {
         return Standing::Broken(Refusal::Malformed, THE_LINE);
     }
     match l {
         Line::OfTick(u) => tick_standing(u),
-        Line::OfServer(s) => server_standing(t.tick, t.nservers, s),
-        Line::OfTask(k) => {
-            let ss = t.servers;
-            task_standing(t.tick, ss, t.nservers, t.ntasks, k)
-        }
+        Line::OfServer(s) => server_standing(tick, servers, s),
+        Line::OfTask(k) => task_standing(tick, h, d, servers, tasks, k),
         Line::Malformed(_, field) => Standing::Broken(Refusal::Malformed, field),
     }
 }

@@ -3,16 +3,18 @@
 use mathlib.Core.Path.{_≡_, refl, ap, _∙_}
 use mathlib.Core.Bool.{Bool, true, false, not, _&&_, _||_}
 use mathlib.Core.List.{List}
+use mathlib.Core.Logic.{inl, inr}
 use Prim.Native.Nat.{ℕ, min, _≤_, _<_}
 use native.Mathlib.Omega.{arith}
-use lib.Dec.{leb, eqb}
+use lib.Dec.{leb, ltb, eqb}
 use lib.ListN.{length, getD, take, length-take}
 use lib.Seq.{length-take-le, getD-take}
 use borrow.Author.Tests.{leb-true, ltb-true, lt-ltb, le-ltb, eqb-true}
 use Rattle.laws.specs.Choice.{unless_say_else_, every, within}
 use Rattle.laws.specs.Rows.{allBelow}
 use Rattle.laws.proofs.Rows.{all-at}
-use Rattle.laws.proofs.Choice.{clash, and-left, and-right, every-at, within-low, within-high}
+use Rattle.laws.proofs.Choice.{clash, if-ind, and-left, and-right, every-at}
+use Rattle.laws.proofs.Choice.{within-low, within-high, le-or-lt}
 use Rattle.table.specs.declared.ByMode.{ByMode}
 use Rattle.table.specs.declared.Refusal.{Refusal}
 use Rattle.table.specs.declared.Refusal.the-variants.{AbsentRow, OtherPartition, NotTimed, OtherServer, Falling}
@@ -26,7 +28,7 @@ use Rattle.table.specs.declared.Task.{Task}
 use Rattle.table.specs.declared.Table.{Table}
 use Rattle.table.specs.Rows.{Rows, rowsOf, noServer, noTask, serverAt, taskAt, inMode, isTimed, priorityAt, periodAt, capacityAt, taskPriorityAt, limitAt}
 use Rattle.table.specs.Rules.{serverKeeps, taskKeeps, rowThere, samePartition, degradedTimed, timedAtHome, taskFault, taskStands, differ, keeps, tableKeeps}
-use Rattle.table.specs.Inner.{Sized, rowsFault}
+use Rattle.table.specs.Inner.{Sized, placeIn, rowsFault}
 use Rattle.table.proofs.Inner.{all-in-use, column-apart}
 
 pub record ServerRules (t : Table) (i : ℕ) : Type 0 where
@@ -168,29 +170,41 @@ stands-keeps ss k e =
 same-row : (ss : List Server) (n i : ℕ) → i < length (take n ss) → getD (take n ss) i noServer ≡ getD ss i noServer
 same-row ss n i h = getD-take n ss i noServer (omega (arith, length-take n ss))
 
--- 41 to 45, by the rows that are there, m of the list
-module _ (ss : List Server) (n m home degraded : ℕ) (limit : ByMode) (e : m ≡ min n (length ss)) where
-  pub home-absent : m ≤ home → Broken AbsentRow 1 ≡ taskFault (take n ss) home degraded limit
-  unfolding taskFault
-  home-absent h = rw (le-ltb home (length (take n ss)) (omega (arith, length-take n ss)))
+-- the place of a row is in the array, and a row of the array is where it is
+pub place-below : (row : ℕ) → placeIn row < 32
+place-below row = if-ind (λ x. x < 32) (ltb row 32) (λ e. ltb-true row 32 e) (λ e. omega arith)
 
-  pub degraded-absent : home < m → m ≤ degraded →
-      Broken AbsentRow 2 ≡ taskFault (take n ss) home degraded limit
-  unfolding taskFault
-  degraded-absent h k =
-      rw (
-        lt-ltb home (length (take n ss)) (omega (arith, length-take n ss)),
-        le-ltb degraded (length (take n ss)) (omega (arith, length-take n ss)),
-      )
+place-is : (row : ℕ) → row < 32 → placeIn row ≡ row
+place-is row h = rw (lt-ltb row 32 h)
 
-  pub none-absent : home < m → degraded < m →
-      rowsFault (getD ss home noServer) (getD ss degraded noServer) home degraded limit ≡
-      taskFault (take n ss) home degraded limit
+-- 41 to 45, by what is read for the two rows, m of the array being in use
+module _ (ss : List Server) (n m home degraded : ℕ) (limit : ByMode) (whole : length ss ≡ 32)
+    (e : m ≡ min n 32) where
+  in-use : length (take n ss) ≡ m
+  in-use = omega (arith, length-take n ss)
+
+  pub rows-read :
+      rowsFault m (getD ss (placeIn home) noServer) (getD ss (placeIn degraded) noServer) home
+      degraded limit
+      ≡ taskFault (take n ss) home degraded limit
   unfolding taskFault
-  none-absent h k =
-      let x : home < length (take n ss) = omega (arith, length-take n ss) in
-      let y : degraded < length (take n ss) = omega (arith, length-take n ss) in
-      rw (lt-ltb _ _ x, lt-ltb _ _ y, same-row ss n home x, same-row ss n degraded y)
+  rows-read =
+      elim (le-or-lt m home) [
+        | inl h ↦ rw (in-use, le-ltb home m h)
+        | inr h ↦ elim (le-or-lt m degraded) [
+          | inl k ↦ rw (in-use, lt-ltb home m h, le-ltb degraded m k)
+          | inr k ↦
+              rw (
+                in-use,
+                lt-ltb home m h,
+                lt-ltb degraded m k,
+                place-is home (omega arith),
+                place-is degraded (omega arith),
+                same-row ss n home (omega (arith, in-use)),
+                same-row ss n degraded (omega (arith, in-use)),
+              )
+        ]
+      ]
 
 -- a timed home
 at-home : (timed : Bool) (d h : ℕ) → (not timed || eqb d h) ≡ true → timed ≡ true → d ≡ h

@@ -10,7 +10,7 @@ ghost use Rattle.laws.specs.Choice.{every};
 ghost use Rattle.table.specs.Refusals.{numberOf, isKept};
 ghost use Rattle.table.specs.Rows.{inMode, largest, isTimed, isLow, isD2, noTable};
 ghost use Rattle.table.specs.Rules.{serverKeeps, taskKeeps, taskFault, taskStands, staysHome, tableKeeps};
-ghost use Rattle.table.specs.Inner.{rowsFault, serversKeep, tasksKeep};
+ghost use Rattle.table.specs.Inner.{placeIn, rowsFault, serversKeep, tasksKeep};
 ghost use Rattle.table.specs.Pairs.{isDiffer, equalServers, equalTasks};
 
 // A run holds at most so many rows of each kind.
@@ -320,15 +320,40 @@ fn task_keeps(k: Task) -> bool
     laws::all_of(&[priority, n, d1, d2])
 }
 
+// The place in the array of the row that a task names, and 0 where the array has no such place, so
+// that there is a row to read before it is known whether the one named is there.
+pub fn row_in(row: u64) -> usize
+    ensures { λ r. ⌜ r ≡ placeIn row ⌝ }
+{
+    if row < SERVERS as u64 {
+        return row as usize;
+    }
+    0
+}
+
 // What a task breaks of the rules on its limits and on the two rows that it names, its home and its
-// degraded server, or nothing: the first that applies.
-fn rows_fault(h: Server, d: Server, home: u64, degraded: u64, limit: ByMode) -> Standing
-    ensures { λ r. ⌜ r ≡ rowsFault h d home degraded limit ⌝ }
+// degraded server, or nothing: the first that applies. A row from the count on is "absent (however
+// great its number)", whatever was read for it.
+pub fn rows_fault(
+    count: usize,
+    h: Server,
+    d: Server,
+    home: u64,
+    degraded: u64,
+    limit: ByMode,
+) -> Standing
+    ensures { λ r. ⌜ r ≡ rowsFault count h d home degraded limit ⌝ }
 {
     let base = h.kind;
     let kind = d.kind;
     let timed = is_timed(kind);
     let stays = stays_home(base, home, degraded);
+    if count as u64 <= home {
+        return Standing::Broken(Refusal::AbsentRow, HOME);
+    }
+    if count as u64 <= degraded {
+        return Standing::Broken(Refusal::AbsentRow, DEGRADED);
+    }
     if d.partition != h.partition {
         return Standing::Broken(Refusal::OtherPartition, DEGRADED);
     }
@@ -347,8 +372,7 @@ fn rows_fault(h: Server, d: Server, home: u64, degraded: u64, limit: ByMode) -> 
     Standing::Kept
 }
 
-// The same, the rows being among the first count or "absent (however great its number)": they are
-// read once both are known to be there.
+// The same, the rows being among the first count.
 pub fn task_fault(
     ss: [Server; SERVERS],
     count: usize,
@@ -359,15 +383,11 @@ pub fn task_fault(
     ensures { λ r. ⌜ r ≡ taskFault (take count ss) home degraded limit ⌝ }
 {
     let n = in_use(count, SERVERS);
-    if n as u64 <= home {
-        return Standing::Broken(Refusal::AbsentRow, HOME);
-    }
-    if n as u64 <= degraded {
-        return Standing::Broken(Refusal::AbsentRow, DEGRADED);
-    }
-    let h = ss[home as usize];
-    let d = ss[degraded as usize];
-    rows_fault(h, d, home, degraded, limit)
+    let i = row_in(home);
+    let j = row_in(degraded);
+    let h = ss[i];
+    let d = ss[j];
+    rows_fault(n, h, d, home, degraded, limit)
 }
 
 // Whether a task's row keeps the rules beside the first n servers.

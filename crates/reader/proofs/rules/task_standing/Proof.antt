@@ -1,13 +1,12 @@
 -- `reader::rules::task_standing` meets its contract: its bounds, then its rows and its limits as
 -- they are rounded up, the tick being from 1 to 10,000. Assumes nothing.
 use mathlib.Core.Path.{_≡_, sym, ap, _∙_}
-use lib.ListN.{take}
 use borrow.Author.Needs.{needs}
 use Rattle.laws.specs.declared.Found.the-variants.{Nothing}
 use Rattle.laws.specs.Search.{firstFailed}
 use Rattle.laws.proofs.Choice.{within-low, within-high}
 use Rattle.laws.proofs.Search.{failed-none}
-use Rattle.table.specs.Rules.{taskFault}
+use Rattle.table.specs.Inner.{rowsFault}
 use Rattle.text.specs.Standing.{taskBounds}
 use Rattle.text.proofs.Standing.{task-keeps}
 use Rattle.reader.proofs.Standing.{task-fits}
@@ -41,8 +40,8 @@ returns-2 : tie.Need-returns-2
 returns-2 c =
     let e = c .before .before .before in
     let a = e .before .before .before .args in
-    let faultOf = taskFault (take (a .count) (a .ss)) (a .k .home) (a .k .degraded) in
-    rw (bounded e) (c .task-fault .ensures ∙ ap faultOf (c .before .limits .ensures))
+    let faultOf = rowsFault (a .count) (a .h) (a .d) (a .k .home) (a .k .degraded) in
+    rw (bounded e) (c .rows-fault .ensures ∙ ap faultOf (c .before .limits .ensures))
 
 pub task-standing-spec : {M : Type 1} → statement M
 task-standing-spec =
