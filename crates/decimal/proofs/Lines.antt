@@ -5,7 +5,7 @@
 use mathlib.Core.Path.{_≡_, refl, sym, ap, _∙_}
 use mathlib.Core.Bool.{Bool, true, false, not, _&&_}
 use mathlib.Core.List.{List, [], _∷_, _++_, append-assoc}
-use Prim.Native.Nat.{ℕ, suc, _+_, _-_, _≤_, _<_, _*_}
+use Prim.Native.Nat.{ℕ, zero, suc, _+_, _-_, _≤_, _<_, _*_}
 use native.Mathlib.Omega.{arith}
 use native.Mathlib.Numerals.{add-one}
 use lib.Dec.{eqb, leb}
@@ -20,7 +20,7 @@ use Rattle.decimal.specs.Lines.{toFirst, split, lineFeed, join, closed, 
 use Rattle.decimal.specs.Number.{areDigits, isNumber, digits}
 
 -- the first b of a list
-index-cut : (b : ℕ) (l : List ℕ) → indexOf b l < length l →
+pub index-cut : (b : ℕ) (l : List ℕ) → indexOf b l < length l →
     split b l ≡ take (indexOf b l) l ∷ split b (drop (suc (indexOf b l)) l)
 unfolding indexOf indexAfter split
 index-cut b [] h = absurd (omega arith)
@@ -32,7 +32,7 @@ index-cut b (x ∷ xs) h = go (eqb x b) refl h (index-cut b xs)
     go true e l ih = rw (e, split)
     go false e l ih = rw (e, split) (rw (ih (omega (arith, rw e at l))))
 
-index-last : (b : ℕ) (l : List ℕ) → length l ≤ indexOf b l → split b l ≡ l ∷ []
+pub index-last : (b : ℕ) (l : List ℕ) → length l ≤ indexOf b l → split b l ≡ l ∷ []
 unfolding indexOf indexAfter split
 index-last b [] h = refl
 index-last b (x ∷ xs) h = go (eqb x b) refl h (index-last b xs)
@@ -101,11 +101,11 @@ allHigh [] = true
 allHigh (p ∷ ps) = high p && allHigh ps
 
 -- one step of the definition
-split-here : (b x : ℕ) (xs : List ℕ) → eqb x b ≡ true → split b (x ∷ xs) ≡ [] ∷ split b xs
+pub split-here : (b x : ℕ) (xs : List ℕ) → eqb x b ≡ true → split b (x ∷ xs) ≡ [] ∷ split b xs
 unfolding split
 split-here b x xs e = rw (e, split)
 
-split-on : (b x : ℕ) (xs : List ℕ) → eqb x b ≡ false → split b (x ∷ xs) ≡ toFirst x (split b xs)
+pub split-on : (b x : ℕ) (xs : List ℕ) → eqb x b ≡ false → split b (x ∷ xs) ≡ toFirst x (split b xs)
 unfolding split
 split-on b x xs e = rw (e, split)
 
@@ -174,6 +174,12 @@ join-closed (l ∷ (m ∷ ms)) = ap (λ r. l ++ (lineFeed ∷ r)) (join-closed (
 
 pub closed-split : (t : List ℕ) (ls : List (List ℕ)) → split lineFeed t ≡ ls ++ ([] ∷ []) → closed ls ≡ t
 closed-split t ls e = sym (join-closed ls) ∙ ap (join lineFeed) (sym e) ∙ join-split lineFeed t
+
+pub high-at : (bs : List ℕ) (j : ℕ) → high bs ≡ true → j < length bs → 48 ≤ getD bs j 0
+unfolding high
+high-at [] j e h = absurd (omega arith)
+high-at (b ∷ bs) zero e h = leb-true 48 b (and-left (leb 48 b) (high bs) e)
+high-at (b ∷ bs) (suc j) e h = high-at bs j (and-right (leb 48 b) (high bs) e) (omega arith)
 
 -- what is high lacks a tab and a line feed
 pub high-lacks : (c : ℕ) (bs : List ℕ) → c < 48 → high bs ≡ true → lacks c bs ≡ true
@@ -259,6 +265,11 @@ same-eq [] (y ∷ w) e = absurd (clash false e refl)
 same-eq (x ∷ v) [] e = absurd (clash false e refl)
 same-eq (x ∷ v) (y ∷ w) e =
     rw (eqb-true x y (and-left (eqb x y) (same v w) e), same-eq v w (and-right (eqb x y) (same v w) e))
+
+pub same-self : (v : List ℕ) → same v v ≡ true
+unfolding same
+same-self [] = refl
+same-self (x ∷ v) = rw (eq-eqb x x refl) (same-self v)
 
 -- and a loop at byte i has yet to compare the bytes from i on
 pub same-long : (a b : List ℕ) → (length a ≡ length b → ⊥) → same a b ≡ false

@@ -1,44 +1,22 @@
--- A number, byte by byte: what a loop at byte i has yet to find out is what is said of the bytes
--- from i on. And its digits and their worth are inverse: one number has one text. A law on digits
--- goes by `digits-ind`: a number is below 10, or it is ten times a smaller one and a last digit.
--- Assumes nothing.
+-- A number, byte by byte. Its digits and their worth are inverse: one number has one text. A law on
+-- digits goes by `digits-ind`: a number is below 10, or it is ten times a smaller one and a last
+-- digit. Assumes nothing.
 use mathlib.Core.Path.{_≡_, refl, sym, _∙_}
 use mathlib.Core.Bool.{true, false, not}
 use mathlib.Core.List.{List, [], _∷_, _++_, append-assoc, append-nil}
 use mathlib.Core.Logic.{_⊎_, inl, inr}
 use Prim.Native.Nat.{ℕ, zero, suc, _+_, _*_, _-_, _^_, _≤_, _<_, _/_, _%_}
 use native.Mathlib.Omega.{arith}
-use native.Mathlib.Numerals.{add-one}
-use native.Mathlib.Nat.{pow-le-pow-right, pow-suc}
-use lib.Dec.{eqb, lit<}
-use lib.ListN.{length, getD, drop, drop-of-length-le, length-append, List·getD-append}
-use lib.Seq.{drop-cons}
+use native.Mathlib.Nat.{pow-suc}
+use lib.Dec.{eqb}
+use lib.ListN.{length, getD, length-append, List·getD-append}
 use lib.Arith.{lt-of-le-ne}
-use borrow.Author.Tests.{le-leb, lt-leb, ne-eqb, lt-ltb, le-ltb, eqb-true, eqb-false, not-true}
+use borrow.Author.Tests.{ne-eqb, lt-ltb, le-ltb, eqb-true, eqb-false, not-true}
 use Rattle.laws.specs.Choice.{within, every}
 use Rattle.laws.proofs.Choice.{and-left, and-right, within-low, within-high, every-at, and-true, or-cases, is-within, le-or-lt}
-use Rattle.decimal.specs.Number.{areDigits, leadsWell, numberForm, isNumber, worthFrom, worth, readNumber, digitsIn, digits}
-use Rattle.decimal.specs.declared.Number.the-variants.{Value, Bad}
+use Rattle.decimal.specs.Number.{areDigits, leadsWell, numberForm, isNumber, worthFrom, worth, digitsIn, digits}
 
 -- digits
-pub digits-next : (s : List ℕ) (i : ℕ) → i < length s → 48 ≤ getD s i 0 → getD s i 0 ≤ 57 →
-    areDigits (drop i s) ≡ areDigits (drop (i + 1) s)
-unfolding areDigits
-digits-next s i h l u = rw (add-one i, drop-cons s i 0 h, le-leb 48 (getD s i 0) l, le-leb (getD s i 0) 57 u)
-
-pub digits-low : (s : List ℕ) (i : ℕ) → i < length s → getD s i 0 < 48 → areDigits (drop i s) ≡ false
-unfolding areDigits
-digits-low s i h l = rw (drop-cons s i 0 h, lt-leb 48 (getD s i 0) l)
-
-pub digits-high : (s : List ℕ) (i : ℕ) → i < length s → 57 < getD s i 0 → areDigits (drop i s) ≡ false
-unfolding areDigits
-digits-high s i h u =
-    rw (drop-cons s i 0 h, le-leb 48 (getD s i 0) (omega arith), lt-leb (getD s i 0) 57 u)
-
-pub digits-done : (s : List ℕ) (i : ℕ) → length s ≤ i → areDigits (drop i s) ≡ true
-unfolding areDigits
-digits-done s i h = rw (drop-of-length-le s h)
-
 pub digit-at : (s : List ℕ) (i : ℕ) → areDigits s ≡ true → i < length s → (48 ≤ getD s i 0) × (getD s i 0 ≤ 57)
 unfolding areDigits
 digit-at [] i e h = absurd (omega arith)
@@ -54,36 +32,6 @@ number-long s e = within-high 1 11 (length s) (every-at (numberForm s) e 0)
 pub number-is-digits : (s : List ℕ) → isNumber s ≡ true → areDigits s ≡ true
 unfolding isNumber numberForm
 number-is-digits s e = every-at (numberForm s) e 1
-
--- worth
-pub worth-next : (v : ℕ) (s : List ℕ) (i : ℕ) → i < length s →
-    worthFrom v (drop i s) ≡ worthFrom (v * 10 + (getD s i 0 - 48)) (drop (i + 1) s)
-unfolding worthFrom
-worth-next v s i h = rw (add-one i, drop-cons s i 0 h)
-
-pub worth-done : (v : ℕ) (s : List ℕ) (i : ℕ) → length s ≤ i → worthFrom v (drop i s) ≡ v
-unfolding worthFrom
-worth-done v s i h = rw (drop-of-length-le s h)
-
--- the worth of the digits before one of at most 11: ten times it, and a digit more, is far from 2 ^
--- 64
-pub worth-small : (s : List ℕ) (i v : ℕ) → isNumber s ≡ true → i < length s → v < 10 ^ i → v < 10000000000
-worth-small s i v e h k =
-    let m : i ≤ 10 = omega (arith, number-long s e) in omega (arith, pow-le-pow-right {n = 10} (lit< tt) m)
-
--- "no leading zero": no byte, no zero
-pub leads-none : (s : List ℕ) → length s ≡ 0 → true ≡ leadsWell s
-leads-none [] e = refl
-leads-none (b ∷ bs) e = absurd (omega arith)
-
--- a number, read
-pub read-bad : (s : List ℕ) → isNumber s ≡ false → Bad ≡ readNumber s
-unfolding readNumber
-read-bad s e = rw e
-
-pub read-value : (s : List ℕ) (v : ℕ) → isNumber s ≡ true → v ≡ worth s → Value v ≡ readNumber s
-unfolding readNumber
-read-value s v e f = rw (e, f)
 
 -- one step of the definition
 in-one : (f n : ℕ) → n < 10 → digitsIn f n ≡ (48 + n) ∷ []
@@ -155,7 +103,7 @@ worth-digits =
     (λ v d h k e. rw (digits-more v d h k, worth-more 0 (48 + d) (digits v), e) (omega arith))
 
 -- form: digits, of which there are few, and the first of which is not 0
-digits-append : (bs cs : List ℕ) → areDigits bs ≡ true → areDigits cs ≡ true → areDigits (bs ++ cs) ≡ true
+pub digits-append : (bs cs : List ℕ) → areDigits bs ≡ true → areDigits cs ≡ true → areDigits (bs ++ cs) ≡ true
 unfolding areDigits
 digits-append [] cs p q = q
 digits-append (b ∷ bs) cs p q =

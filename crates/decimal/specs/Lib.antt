@@ -1,3 +1,4 @@
 pub mod Number
 pub mod Lines
 pub mod Room
+pub mod Inner

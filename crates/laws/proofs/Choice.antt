@@ -49,6 +49,10 @@ pub true-or-false : (b : Bool) → (b ≡ true) ⊎ (b ≡ false)
 true-or-false true = inl refl
 true-or-false false = inr refl
 
+pub is-false : (b : Bool) → (b ≡ true → ⊥) → b ≡ false
+is-false true f = absurd (f refl)
+is-false false f = refl
+
 -- a number lies within bounds
 pub within-low : (l h x : ℕ) → within l h x ≡ true → l ≤ x
 within-low l h x e = leb-true l x (and-left (leb l x) (leb x h) e)

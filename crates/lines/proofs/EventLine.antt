@@ -11,7 +11,7 @@ use lib.Dec.{eqb}
 use lib.ListN.{length, getD, drop}
 use borrow.Author.Tests.{le-leb, lt-leb, eqb-true}
 use Rattle.laws.specs.Choice.{if_then_else_, every}
-use Rattle.laws.proofs.Choice.{clash, every-at}
+use Rattle.laws.proofs.Choice.{clash, is-false, every-at}
 use Rattle.decimal.specs.declared.Number.the-variants.{Value, Bad}
 use Rattle.decimal.specs.Number.{isNumber, worth, readNumber}
 use Rattle.decimal.specs.Lines.{tab, split, join, same}
@@ -67,13 +67,9 @@ unfolding eventLine eventSaid releaseForm tickForm
 not-event l h =
     let fs = split tab l in
     rw (
-      fails (every (releaseForm fs)) (λ e. h (formed l 82 (inl refl) (releaseForm fs) (refl, refl, refl) e)),
-      fails (every (tickForm fs)) (λ e. h (formed l 84 (inr refl) (tickForm fs) (refl, refl, refl) e)),
+      is-false (every (releaseForm fs)) (λ e. h (formed l 82 (inl refl) (releaseForm fs) (refl, refl, refl) e)),
+      is-false (every (tickForm fs)) (λ e. h (formed l 84 (inr refl) (tickForm fs) (refl, refl, refl) e)),
     )
-  where
-    fails : (b : Bool) → (b ≡ true → ⊥) → b ≡ false
-    fails true f = absurd (f refl)
-    fails false f = refl
 
 pub said-short : (l : List ℕ) → length l < 2 → Another ≡ eventLine l
 said-short l h = not-event l (λ p. omega (arith, ap length (p .line)))

@@ -2,6 +2,8 @@
 -- outcomes that one of them allows equal the same definition's value. Assumes nothing.
 use mathlib.Core.Path.{refl, ap, sym, _∙_}
 use Rattle.decimal.proofs.read_number
+use Rattle.decimal.proofs.field_end
+use Rattle.decimal.proofs.read_field
 use Rattle.decimal.proofs.is_same
 use Rattle.decimal.proofs.put.put_byte
 use Rattle.decimal.proofs.put.put_all
@@ -12,6 +14,12 @@ use Rattle.outcomes.proofs.OneOutcome.{settled}
 
 pub read-number-settled : OneOutcome read_number.Kinds.ps read_number.Kinds.r read_number.Reads.Asked read_number.Reads.Learnt
 read-number-settled = settled (λ κs a. tt) (λ κs a x y p q. (p ∙ sym q, refl))
+
+pub field-end-settled : OneOutcome field_end.Kinds.ps field_end.Kinds.r field_end.Reads.Asked field_end.Reads.Learnt
+field-end-settled = settled (λ κs a. tt) (λ κs a x y p q. (p ∙ sym q, refl))
+
+pub read-field-settled : OneOutcome read_field.Kinds.ps read_field.Kinds.r read_field.Reads.Asked read_field.Reads.Learnt
+read-field-settled = settled (λ κs a. tt) (λ κs a x y p q. (p ∙ sym q, refl))
 
 pub is-same-settled : OneOutcome is_same.Kinds.ps is_same.Kinds.r is_same.Reads.Asked is_same.Reads.Learnt
 is-same-settled = settled (λ κs a. tt) (λ κs a x y p q. (p ∙ sym q, refl))

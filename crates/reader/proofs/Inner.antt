@@ -8,7 +8,7 @@ use mathlib.Core.Logic.{inl, inr}
 use Prim.Native.Nat.{ℕ, suc, _+_, _-_, _≤_, _<_}
 use native.Mathlib.Omega.{arith}
 use lib.Dec.{ltb, eqb}
-use lib.ListN.{length, set, replicate, length-append, length-replicate}
+use lib.ListN.{length, set, replicate, length-append}
 use lib.Seq.{set-append-seam}
 use borrow.Author.Tests.{ltb-true, eqb-true, eq-eqb, ne-eqb, not-true}
 use Rattle.laws.specs.Choice.{every}
@@ -32,7 +32,7 @@ use Rattle.reader.specs.Inner.{Above, placedBy}
 use Rattle.text.proofs.Bounds.{server-within, task-within}
 use Rattle.table.proofs.Rules.{rows-there}
 use Rattle.text.proofs.Standing.{standing-keeps, task-keeps, no-form}
-use Rattle.text.proofs.RoundTrip.{table-rows}
+use Rattle.text.proofs.RoundTrip.{table-rows, table-sized}
 
 -- a row put where there is room
 padded-more : {A : Type 0} (n : ℕ) (z x : A) (xs : List A) → length xs < n →
@@ -66,18 +66,10 @@ module _ (t : Table) (whole : t ≡ tableOf (rowsOf t)) where
   tasks-nil = rw (nil-is (rowsOf t .tasks), tasks-count)
 
   -- a row has a place in the table's array
-  pub servers-length : t .nservers ≤ 32 → length (t .servers) ≡ 32
-  unfolding tableOf
-  servers-length h =
-      let a = rowsOf t .servers in
-      let m = 32 - length a in
+  pub servers-length : t .nservers ≤ 32 → t .ntasks ≤ 64 → length (t .servers) ≡ 32
+  servers-length h g =
       ap (λ (x : Table). length (x .servers)) whole
-      ∙ omega (
-        arith,
-        length-append a (replicate m noServer),
-        length-replicate m noServer,
-        servers-count,
-      )
+      ∙ table-sized (rowsOf t) (omega (arith, servers-count)) (omega (arith, tasks-count)) .servers
 
   -- what is asked of the rows above is how many there are
   pub placed-by : (n : ℕ) (word : Word) →

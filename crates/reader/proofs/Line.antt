@@ -1,18 +1,24 @@
--- A line, told from the one pass over its fields: the first that is wrong, and where none is what
--- their numbers say. Assumes nothing.
+-- A line, told from its leading word where it stands and from the one pass over its fields: the
+-- first that is wrong, and where none is what their numbers say. Assumes nothing.
 use mathlib.Core.Path.{_≡_, refl, sym, ap, _∙_}
 use mathlib.Core.Bool.{Bool, true, false}
-use mathlib.Core.List.{List, [], _∷_}
+use mathlib.Core.List.{List, [], _∷_, _++_}
 use Prim.Native.Nat.{ℕ, _+_, _-_, _≤_, _<_}
 use native.Mathlib.Omega.{arith}
-use lib.ListN.{length, getD, take, drop, length-drop}
-use lib.Seq.{take-all}
+use native.Mathlib.Nat.{zero-add}
+use native.Mathlib.Numerals.{add-one}
+use lib.ListN.{length, getD, take, drop, length-take, length-append, List·getD-append}
+use lib.Seq.{getD-take, getD-append-seam, take-take, take-suc, take-append-seam}
 use Rattle.laws.specs.declared.Found.{Found}
 use Rattle.laws.specs.declared.Found.the-variants.{At, Nothing}
 use Rattle.laws.specs.Choice.{if_then_else_}
+use Rattle.laws.proofs.Choice.{clash, is-false}
 use Rattle.laws.specs.Search.{firstFailed}
-use Rattle.decimal.specs.Lines.{tab, split, same}
-use Rattle.decimal.proofs.Lines.{split-some, Finds, cut-at, last-at}
+use Rattle.decimal.specs.Lines.{tab, lineFeed, same}
+use Rattle.decimal.specs.declared.End.{End}
+use Rattle.decimal.specs.Inner.Fields.{firstLine, fieldsFrom, firstField, fieldEnd}
+use Rattle.decimal.proofs.Lines.{split-some, Finds, high, high-at, same-eq, same-self}
+use Rattle.decimal.proofs.Inner.Fields.{end-past-high, end-tab, end-within, end-taken, field-taken, field-more, field-last, line-behind-tab, line-on-from, line-found}
 use Rattle.table.specs.declared.Kind.{Kind}
 use Rattle.table.specs.declared.Level.{Level}
 use Rattle.text.specs.declared.Word.{Word}
@@ -23,8 +29,9 @@ use Rattle.text.specs.Words.{tickWord, serverWord, taskWord, timedWord, miWord,
 use Rattle.text.specs.Line.{aNumber, aKind, aLevel, Form, tickForm, serverForm, taskForm, formTests, microsAt, serverSaid, taskSaid, leading, wordOf, saidUnless, formed, lineBy, lineOf, readLine}
 use Rattle.text.proofs.Lines.{no-fields}
 use Rattle.reader.specs.declared.fields.Fields.{Fields}
-use Rattle.reader.specs.Inner.Fields.{valueOf, kindAt, levelAt, noFields, passed}
-use Rattle.reader.proofs.Inner.Fields.{pass-wrong, pass-values}
+use Rattle.reader.specs.Inner.Fields.{valueOf, kindAt, levelAt, lineEnd, noFields, passed}
+use Rattle.reader.specs.Inner.Lines.{lineRead, readBehind, firstRead}
+use Rattle.reader.proofs.Inner.Fields.{pass-ends, pass-wrong, pass-values}
 
 -- a word by its place
 kind-said : (f : List ℕ) → kindAt (valueOf aKind f) ≡ kindOf f
@@ -44,43 +51,52 @@ level-said f = go (same f hiWord) (same f miWord)
     go false true = refl
     go false false = refl
 
--- the bytes after the leading word, read as a form asks
-abbrev pub ReadAs : Form → List ℕ → Fields → Type 0
-ReadAs form rest r = r ≡ passed (form .least) (form .fields) 0 noFields (split tab rest)
+-- the fields after the leading word, read as a form asks, of a line that ends at a place
+abbrev pub ReadAs : Form → List ℕ → ℕ → Fields → Type 0
+ReadAs form text from r =
+    r ≡ passed (form .least) (form .fields) 0 (noFields (lineEnd text from)) (fieldsFrom text from)
 
-module _ (form : Form) (rest : List ℕ) (r : Fields) (read : ReadAs form rest r) where
-  first-wrong : (w : Found) → r .wrong ≡ w → firstFailed (formTests form (split tab rest)) ≡ w
+module _ (form : Form) (text : List ℕ) (from : ℕ) (r : Fields) (read : ReadAs form text from r) where
+  first-wrong : (w : Found) → r .wrong ≡ w → firstFailed (formTests form (fieldsFrom text from)) ≡ w
   first-wrong w e =
-      sym (pass-wrong form (split tab rest) (split-some tab rest))
+      sym
+      (pass-wrong form (fieldsFrom text from) (lineEnd text from) (split-some tab (firstLine (drop from text))))
       ∙ ap (λ (x : Fields). x .wrong) (sym read)
       ∙ e
 
+  pub lined : (l : Line) (said : Line) → l ≡ said → record { line = l; end = r .end } ≡ lineRead text from said
+  lined l said e =
+      rw (e, ap (λ (x : Fields). x .end) read ∙ pass-ends form (fieldsFrom text from) (lineEnd text from))
+
   pub form-not : (said : Line) (field : ℕ) → r .wrong ≡ At field →
-      Malformed (wordOf said) field ≡ formed form (split tab rest) said
-  form-not said field e = ap (λ x. saidUnless x said) (sym (first-wrong (At field) e))
+      record { line = Malformed (wordOf said) field; end = r .end } ≡
+      lineRead text from (formed form (fieldsFrom text from) said)
+  form-not said field e =
+      lined (Malformed (wordOf said) field) (formed form (fieldsFrom text from) said)
+      (ap (λ x. saidUnless x said) (sym (first-wrong (At field) e)))
 
   module _ (none : r .wrong ≡ Nothing) where
-    form-has : (said : Line) → said ≡ formed form (split tab rest) said
+    form-has : (said : Line) → said ≡ formed form (fieldsFrom text from) said
     form-has said = ap (λ x. saidUnless x said) (sym (first-wrong Nothing none))
 
     value-read : length (form .fields) ≤ 7 → (i : ℕ) → i < form .least →
-        getD (r .values) i 0 ≡ valueOf (getD (form .fields) i aNumber) (getD (split tab rest) i [])
+        getD (r .values) i 0 ≡ valueOf (getD (form .fields) i aNumber) (getD (fieldsFrom text from) i [])
     value-read l i h =
         ap (λ (x : Fields). getD (x .values) i 0) read
-        ∙ pass-values form (split tab rest) (first-wrong Nothing none) l i h
+        ∙ pass-values form (fieldsFrom text from) (lineEnd text from) (first-wrong Nothing none) l i h
 
 -- and what it says where no field is wrong
-module _ (rest : List ℕ) (r : Fields) where
-  pub tick-read : ReadAs tickForm rest r → r .wrong ≡ Nothing →
+module _ (text : List ℕ) (from : ℕ) (r : Fields) where
+  pub tick-read : ReadAs tickForm text from r → r .wrong ≡ Nothing →
       OfTick (record { 0 = getD (r .values) 0 0 }) ≡
-      formed tickForm (split tab rest) (OfTick (microsAt (split tab rest) 1))
+      formed tickForm (fieldsFrom text from) (OfTick (microsAt (fieldsFrom text from) 1))
   unfolding tickForm
   tick-read e w =
-      rw (value-read tickForm rest r e w (omega arith) 0 (omega arith))
-      (form-has tickForm rest r e w (OfTick (microsAt (split tab rest) 1)))
+      rw (value-read tickForm text from r e w (omega arith) 0 (omega arith))
+      (form-has tickForm text from r e w (OfTick (microsAt (fieldsFrom text from) 1)))
 
   pub server-read : (kind : Kind) → kind ≡ kindAt (getD (r .values) 1 0) →
-      ReadAs serverForm rest r → r .wrong ≡ Nothing →
+      ReadAs serverForm text from r → r .wrong ≡ Nothing →
       OfServer (record {
         partition = getD (r .values) 0 0;
         kind = kind;
@@ -91,10 +107,10 @@ module _ (rest : List ℕ) (r : Fields) where
           d1 = record { 0 = getD (r .values) 5 0 };
           d2 = record { 0 = getD (r .values) 6 0 };
         };
-      }) ≡ formed serverForm (split tab rest) (OfServer (serverSaid (split tab rest)))
+      }) ≡ formed serverForm (fieldsFrom text from) (OfServer (serverSaid (fieldsFrom text from)))
   unfolding serverForm
   server-read kind k e w =
-      let v = value-read serverForm rest r e w (omega arith) in
+      let v = value-read serverForm text from r e w (omega arith) in
       rw (
         k,
         v 0 (omega arith),
@@ -104,12 +120,12 @@ module _ (rest : List ℕ) (r : Fields) where
         v 4 (omega arith),
         v 5 (omega arith),
         v 6 (omega arith),
-        kind-said (getD (split tab rest) 1 []),
+        kind-said (getD (fieldsFrom text from) 1 []),
       )
-      (form-has serverForm rest r e w (OfServer (serverSaid (split tab rest))))
+      (form-has serverForm text from r e w (OfServer (serverSaid (fieldsFrom text from))))
 
   pub task-read : (level : Level) → level ≡ levelAt (getD (r .values) 3 0) →
-      ReadAs taskForm rest r → r .wrong ≡ Nothing →
+      ReadAs taskForm text from r → r .wrong ≡ Nothing →
       OfTask (record {
         home = getD (r .values) 0 0;
         degraded = getD (r .values) 1 0;
@@ -120,10 +136,10 @@ module _ (rest : List ℕ) (r : Fields) where
           d1 = record { 0 = getD (r .values) 5 0 };
           d2 = record { 0 = getD (r .values) 6 0 };
         };
-      }) ≡ formed taskForm (split tab rest) (OfTask (taskSaid (split tab rest)))
+      }) ≡ formed taskForm (fieldsFrom text from) (OfTask (taskSaid (fieldsFrom text from)))
   unfolding taskForm
   task-read level k e w =
-      let v = value-read taskForm rest r e w (omega arith) in
+      let v = value-read taskForm text from r e w (omega arith) in
       rw (
         k,
         v 0 (omega arith),
@@ -133,9 +149,9 @@ module _ (rest : List ℕ) (r : Fields) where
         v 4 (omega arith),
         v 5 (omega arith),
         v 6 (omega arith),
-        level-said (getD (split tab rest) 3 []),
+        level-said (getD (fieldsFrom text from) 3 []),
       )
-      (form-has taskForm rest r e w (OfTask (taskSaid (split tab rest))))
+      (form-has taskForm text from r e w (OfTask (taskSaid (fieldsFrom text from))))
 
 -- the leading word
 module _ (w : List ℕ) where
@@ -153,22 +169,109 @@ module _ (w : List ℕ) where
       pub word-other : same w taskWord ≡ false → Unknown ≡ leading w
       word-other e = rw (not-tick, not-server, e)
 
--- which tells the form that the fields after it must have
-pub line-led : (w : List ℕ) (fs : List (List ℕ)) (word : Word) → word ≡ leading w →
-    lineBy word fs ≡ lineOf (w ∷ fs)
-unfolding lineOf
-line-led w fs word e = ap (λ (x : Word). lineBy x fs) e
+pub leads-tick : ATick ≡ leading tickWord
+unfolding same tickWord
+leads-tick = refl
 
--- a line, by where its leading word ends
-module _ (l : List ℕ) (e : ℕ) (finds : Finds tab l 0 e) where
-  pub line-alone : length l ≤ e → Malformed (leading l) 0 ≡ readLine l
-  unfolding readLine
-  line-alone h = sym (ap lineOf (last-at tab l 0 e finds (omega arith) h) ∙ no-fields l)
+pub leads-server : AServer ≡ leading serverWord
+unfolding same tickWord serverWord
+leads-server = refl
 
-  pub line-parts : e < length l →
-      lineOf (take e l ∷ split tab (take (length l - (e + 1)) (drop (e + 1) l))) ≡ readLine l
-  unfolding readLine
-  line-parts h =
-      let z : e - 0 ≡ e = omega arith in
-      rw (take-all (length l - (e + 1)) (drop (e + 1) l) (omega (arith, length-drop (e + 1) l)))
-      (sym (ap lineOf (rw z at (cut-at tab l 0 e finds h))))
+pub leads-task : ATask ≡ leading taskWord
+unfolding same tickWord serverWord taskWord
+leads-task = refl
+
+-- a text begins with a word and its tab
+abbrev ledBy : List ℕ → List ℕ → Bool
+ledBy w text = same (take (length w + 1) text) (w ++ (tab ∷ []))
+
+-- Then the word is the first field of the line there, and the fields after it are those from behind
+-- the tab on. Bytes of words are at least `0`.
+module _ (text w : List ℕ) (is-high : high w ≡ true) (stands : ledBy w text ≡ true) where
+  front : take (length w + 1) text ≡ w ++ (tab ∷ [])
+  front = same-eq (take (length w + 1) text) (w ++ (tab ∷ [])) stands
+
+  pub long : length w < length text
+  long =
+      omega
+      (arith, ap length front, length-take (length w + 1) text, length-append w (tab ∷ []))
+
+  byte : (j : ℕ) → j < length w + 1 → getD text j 0 ≡ getD (w ++ (tab ∷ [])) j 0
+  byte j h = sym (getD-take (length w + 1) text j 0 h) ∙ ap (λ x. getD x j 0) front
+
+  ends : fieldEnd text 0 ≡ record { at = length w; more = true }
+  ends =
+      rw (zero-add (length w)) at
+      (end-past-high text 0 (length w) (omega (arith, long)) (λ j h.
+      rw (zero-add j, byte j (omega arith), List·getD-append w (tab ∷ []) 0 j h) (high-at w j is-high h)))
+      ∙ sym (end-tab text (length w) long (byte (length w) (omega arith) ∙ seam))
+    where
+      seam : getD (w ++ (tab ∷ [])) (length w) 0 ≡ 9
+      seam = getD-append-seam w tab [] 0
+
+  first : firstField text 0 ≡ w
+  unfolding fieldEnd
+  first =
+      let m : length (firstField text 0) ≡ length w = omega (arith, ap (λ (x : End). x .at) ends) in
+      rw m at (field-taken text 0)
+      ∙ sym (take-take (length w) (length w + 1) text (omega arith))
+      ∙ ap (take (length w)) front
+      ∙ take-append-seam w (tab ∷ [])
+
+  parts : (fieldsFrom text 0 ≡ w ∷ fieldsFrom text (length w + 1))
+      × (lineEnd text 0 ≡ lineEnd text (length w + 1))
+  parts =
+      let more = ap (λ (x : End). x .more) ends in
+      (rw ends at (field-more text 0 more) .0 ∙ rw first, rw ends at (line-behind-tab text 0 more))
+
+  -- the word tells the form that the fields after it must have
+  pub line-led : (word : Word) → word ≡ leading w →
+      readBehind word text (length w + 1) ≡ firstRead text
+  unfolding readLine lineOf
+  line-led word e = rw (e, parts .0, parts .1)
+
+-- where none of the words stands so, the line has no form
+module _ (text : List ℕ) where
+  other-word : (w : List ℕ) → ledBy w text ≡ false → fieldEnd text 0 .more ≡ true →
+      same (firstField text 0) w ≡ false
+  unfolding fieldEnd
+  other-word w none more =
+      is-false (same (firstField text 0) w) (λ e. clash _ (stands (same-eq (firstField text 0) w e)) none)
+    where
+      stands : firstField text 0 ≡ w → ledBy w text ≡ true
+      stands e =
+          let cut = rw (e, zero-add (length w)) at (field-more text 0 more) in
+          rw (
+            add-one (length w),
+            take-suc text (length w) 0 (cut .1),
+            sym (rw e at (field-taken text 0)),
+            cut .2,
+          )
+          (same-self (w ++ (tab ∷ [])))
+
+  no-form : ledBy serverWord text ≡ false → ledBy taskWord text ≡ false → ledBy tickWord text ≡ false →
+      Malformed (leading (firstField text 0)) 0 ≡ readLine (firstLine text)
+  unfolding readLine lineOf lineBy
+  no-form s k t = go (fieldEnd text 0 .more) refl
+    where
+      go : (b : Bool) → fieldEnd text 0 .more ≡ b → Malformed (leading (firstField text 0)) 0 ≡ readLine (firstLine text)
+      go true e =
+          rw (
+            field-more text 0 e .0,
+            other-word tickWord t e,
+            other-word serverWord s e,
+            other-word taskWord k e,
+          )
+      go false e = sym (ap lineOf (field-last text 0 e .0) ∙ no-fields (firstField text 0))
+
+  pub no-form-read : (e : End) (word : Word) (end : ℕ) → e ≡ fieldEnd text 0 → word ≡ leading (take (e .at) text) →
+      Finds lineFeed text (e .at) end → end ≤ length text →
+      ledBy serverWord text ≡ false → ledBy taskWord text ≡ false → ledBy tickWord text ≡ false →
+      record { line = Malformed word 0; end = end } ≡ firstRead text
+  no-form-read e word end q r f h s k t =
+      let z : e .at - 0 ≡ e .at = omega arith in
+      let taken : take (e .at) text ≡ firstField text 0 = rw (← q, z) at (end-taken text 0) in
+      let within : e .at ≤ length text =
+      omega (arith, ap (λ (x : End). x .at) q, end-within text 0 (omega arith)) in
+      let ends = line-found text (e .at) end f within h in
+      rw (r, taken, no-form s k t, sym ends, ← (rw (← q) at (line-on-from text 0)))

@@ -3,13 +3,17 @@
 -- nothing.
 use mathlib.Core.Path.{_≡_, sym, ap, _∙_, subst}
 use mathlib.Core.Bool.{true, false}
-use mathlib.Core.List.{List}
-use Prim.Native.Nat.{ℕ, _+_, _-_, _≤_, _<_}
+use mathlib.Core.List.{List, _∷_}
+use Prim.Native.Nat.{ℕ, suc, _+_, _-_, _≤_, _<_}
 use native.Mathlib.Omega.{arith}
+use native.Mathlib.Nat.{zero-add}
 use lib.ListN.{length, take, drop, length-drop, drop-of-length-le}
+use lib.Seq.{take-all, drop-drop}
 use borrow.Author.Tests.{le-leb, lt-leb}
 use Rattle.decimal.specs.Lines.{lineFeed, split}
-use Rattle.decimal.proofs.Lines.{Finds, cut-at, last-at, split-some}
+use Rattle.decimal.specs.Inner.Fields.{firstLine}
+use Rattle.decimal.proofs.Lines.{split-some}
+use Rattle.decimal.proofs.Inner.Fields.{line-closed, line-open}
 use Rattle.table.specs.declared.Pair.the-variants.{Equal, Differ}
 use Rattle.table.specs.declared.Table.{Table}
 use Rattle.table.specs.declared.Refusal.{Refusal}
@@ -24,7 +28,9 @@ use Rattle.text.specs.declared.Read.{Read}
 use Rattle.text.specs.Line.{readLine}
 use Rattle.text.specs.Standing.{isNil, standing, grown}
 use Rattle.text.specs.Read.{refused, equal, compared, ended, lineSaid, readFrom, read, shown}
+use Rattle.reader.specs.declared.forms.LineRead.{LineRead}
 use Rattle.reader.specs.Inner.{Above}
+use Rattle.reader.specs.Inner.Lines.{firstRead}
 use Rattle.text.proofs.Standing.{not-nil}
 use Rattle.text.proofs.Allowed.{from-line}
 use Rattle.text.proofs.RoundTrip.{table-rows}
@@ -76,38 +82,53 @@ pub starts-from : (t : Table) (ls : List (List ℕ)) → t ≡ tableOf noRows �
     readFrom 1 noRows ls ≡ readFrom 1 (rowsOf t) ls
 starts-from t ls e = ap (λ x. readFrom 1 x ls) (sym (ap rowsOf e ∙ table-rows noRows))
 
--- line n begins at `from`, and the search for its line feed answers e
-module _ (n : ℕ) (a : Rows) (text : List ℕ) (from e : ℕ) (found : Finds lineFeed text from e) where
+-- the line at the front of what is lent of the text
+pub line-lent : (text : List ℕ) (at : ℕ) (r : LineRead) →
+    r ≡ firstRead (take (length text - at) (drop at text)) →
+    (r .line ≡ readLine (firstLine (drop at text))) × (r .end ≡ length (firstLine (drop at text)))
+line-lent text at r e =
+    let f = rw (take-all (length text - at) (drop at text) (omega (arith, length-drop at text))) at e in
+    (ap (λ (x : LineRead). x .line) f, ap (λ (x : LineRead). x .end) f ∙ zero-add (length (firstLine (drop at text))))
+
+-- line n begins at `from` and ends at e
+module _ (n : ℕ) (a : Rows) (text : List ℕ) (from e : ℕ) (ends : e ≡ from + length (firstLine (drop from text))) where
   pub from-unclosed : length text ≤ e → from < length text →
       refused Malformed n 0 ≡ readFrom n a (split lineFeed (drop from text))
   unfolding readFrom
   from-unclosed h k =
       rw (
-        last-at lineFeed text from e found (omega arith) h,
+        line-open (drop from text) (omega (arith, length-drop from text)),
         not-nil (drop from text) (omega (arith, length-drop from text)),
       )
 
-  from-closed : (l : Line) → e < length text → l ≡ readLine (take (e - from) (drop from text)) →
+  closed-at : e < length text →
+      split lineFeed (drop from text) ≡ firstLine (drop from text) ∷ split lineFeed (drop (e + 1) text)
+  closed-at h =
+      let m = length (firstLine (drop from text)) in
+      let q : from + suc m ≡ e + 1 = omega arith in
+      rw (drop-drop (suc m) from text, q) at (line-closed (drop from text) (omega (arith, length-drop from text)))
+
+  from-closed : (l : Line) → e < length text → l ≡ readLine (firstLine (drop from text)) →
       lineSaid n (standing n a l) (readFrom (n + 1) (grown a l) (split lineFeed (drop (e + 1) text)))
       ≡ readFrom n a (split lineFeed (drop from text))
   from-closed l h q =
       rw (
-        cut-at lineFeed text from e found h,
+        closed-at h,
         from-line
             n
             a
-            (take (e - from) (drop from text))
+            (firstLine (drop from text))
             (split lineFeed (drop (e + 1) text))
             (split-some lineFeed (drop (e + 1) text)),
         q,
       )
 
   pub from-broken : (l : Line) (why : Refusal) (field : ℕ) → e < length text →
-      l ≡ readLine (take (e - from) (drop from text)) → standing n a l ≡ Broken why field →
+      l ≡ readLine (firstLine (drop from text)) → standing n a l ≡ Broken why field →
       refused why n field ≡ readFrom n a (split lineFeed (drop from text))
   from-broken l why field h q j = rw j at (from-closed l h q)
 
-  pub from-kept : (l : Line) (t : Table) → e < length text → l ≡ readLine (take (e - from) (drop from text)) →
+  pub from-kept : (l : Line) (t : Table) → e < length text → l ≡ readLine (firstLine (drop from text)) →
       standing n a l ≡ Kept → t ≡ tableOf (grown a l) →
       readFrom n a (split lineFeed (drop from text)) ≡
       readFrom (n + 1) (rowsOf t) (split lineFeed (drop (e + 1) text))

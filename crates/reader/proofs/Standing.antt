@@ -18,32 +18,31 @@ use Rattle.text.specs.declared.Word.the-variants.{ATick, AServer, ATask}
 use Rattle.text.specs.declared.Line.{Line}
 use Rattle.text.specs.declared.Line.the-variants.{OfTick, OfServer, OfTask, Malformed as MalformedLine}
 use Rattle.text.specs.Standing.{serverBounds, bounds, wholes, limitsOf, taskOf, fault, standing}
-use Rattle.reader.specs.Inner.{Above, FewTicks, rowNamed, homeRow, degradedRow, standingBy}
+use Rattle.reader.specs.declared.rules.Named.{Named}
+use Rattle.reader.specs.Inner.{Above, FewTicks, namedRows, standingBy}
 use Rattle.reader.proofs.Inner.{servers-count, tasks-count, servers-length, placed-by}
 use Rattle.text.proofs.Bounds.{server-within}
 
 -- where a row is read there is one
-pub named-below : (which : TaskLine → ℕ) (l : Line) → rowNamed which l < 32
-named-below which (OfTick u) = omega arith
-named-below which (OfServer s) = omega arith
-named-below which (OfTask k) = place-below (which k)
-named-below which (MalformedLine word field) = omega arith
+pub named-below : (l : Line) → (namedRows l .home < 32) × (namedRows l .degraded < 32)
+named-below (OfTick u) = omega arith
+named-below (OfServer s) = omega arith
+named-below (OfTask k) = (place-below (k .home), place-below (k .degraded))
+named-below (MalformedLine word field) = omega arith
 
 -- what is asked of the rows above is how many there are, and for a task the two that it names
-pub standing-by : (n : ℕ) (t : Table) → Above n t → (l : Line) (i j : ℕ) → i ≡ homeRow l →
-    j ≡ degradedRow l →
-    standingBy n (t .tick .0) (t .nservers) (t .ntasks) (serverAt t i) (serverAt t j) l
+pub standing-by : (n : ℕ) (t : Table) → Above n t → (l : Line) (r : Named) → r ≡ namedRows l →
+    standingBy n (t .tick .0) (t .nservers) (t .ntasks) (serverAt t (r .home)) (serverAt t (r .degraded)) l
     ≡ standing n (rowsOf t) l
 unfolding standing bounds wholes fault firstFailed least
-standing-by n t r (OfTick u) i j e f = rw (placed-by t (r .whole) n ATick)
-standing-by n t r (OfServer s) i j e f =
-    rw (placed-by t (r .whole) n AServer, servers-count t (r .whole))
-standing-by n t r (OfTask k) i j e f =
+standing-by n t a (OfTick u) r e = rw (placed-by t (a .whole) n ATick)
+standing-by n t a (OfServer s) r e =
+    rw (placed-by t (a .whole) n AServer, servers-count t (a .whole))
+standing-by n t a (OfTask k) r e =
     rw (
       e,
-      f,
-      placed-by t (r .whole) n ATask,
-      tasks-count t (r .whole),
+      placed-by t (a .whole) n ATask,
+      tasks-count t (a .whole),
       rows-read
           (t .servers)
           (t .nservers)
@@ -51,10 +50,10 @@ standing-by n t r (OfTask k) i j e f =
           (k .home)
           (k .degraded)
           (limitsOf (t .tick .0) (k .limit))
-          (servers-length t (r .whole) (r .servers))
-          (omega (arith, r .servers)),
+          (servers-length t (a .whole) (a .servers) (a .tasks))
+          (omega (arith, a .servers)),
     )
-standing-by n t r (MalformedLine word field) i j e f = rw (placed-by t (r .whole) n word)
+standing-by n t a (MalformedLine word field) r e = rw (placed-by t (a .whole) n word)
 
 -- what the bounds say of the numbers of a row, in ticks
 pub record ServerFits (t : ℕ) (s : ServerLine) : Type 0 where

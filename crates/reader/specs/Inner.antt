@@ -2,6 +2,7 @@
 -- reader's inner functions ask of the table that is being read. The reader gives it to each; nobody
 -- else calls them.
 pub mod Fields
+pub mod Lines
 use mathlib.Core.Path.{_≡_}
 use mathlib.Core.Bool.{Bool, true, false, not, _&&_}
 use mathlib.Core.List.{[], _∷_}
@@ -27,6 +28,7 @@ use Rattle.text.specs.declared.Word.the-variants.{ATick, AServer, ATask, Unknow
 use Rattle.text.specs.declared.Line.{Line}
 use Rattle.text.specs.declared.Line.the-variants.{OfTick, OfServer, OfTask, Malformed as NoForm}
 use Rattle.text.specs.Line.{wordOf}
+use Rattle.reader.specs.declared.rules.Named.{Named}
 use Rattle.text.specs.Standing.{anything, serverBounds, serverWhole, taskBounds, limitsOf, tell_at_or_}
 
 -- The table holds the rows above line n and nothing else. All lines but the first stand below a
@@ -66,17 +68,14 @@ taskStanding tick h d count tasks k =
     or rowsFault count h d (k .home) (k .degraded) (limitsOf tick (k .limit))
 
 -- Where the rows that a task line names are read. Other lines name none: row 0 is read.
-abbrev pub rowNamed : (TaskLine → ℕ) → Line → ℕ
-rowNamed which (OfTick u) = 0
-rowNamed which (OfServer s) = 0
-rowNamed which (OfTask k) = placeIn (which k)
-rowNamed which (NoForm word field) = 0
+abbrev pub noneNamed : Named
+noneNamed = record { home = 0; degraded = 0 }
 
-abbrev pub homeRow : Line → ℕ
-homeRow = rowNamed (λ k. k .home)
-
-abbrev pub degradedRow : Line → ℕ
-degradedRow = rowNamed (λ k. k .degraded)
+abbrev pub namedRows : Line → Named
+namedRows (OfTick u) = noneNamed
+namedRows (OfServer s) = noneNamed
+namedRows (OfTask k) = record { home = placeIn (k .home); degraded = placeIn (k .degraded) }
+namedRows (NoForm word field) = noneNamed
 
 -- A line in its place, and a line anywhere.
 abbrev pub inPlace : ℕ → ℕ → ℕ → Server → Server → Line → Standing

@@ -1,27 +1,27 @@
-// The fields of a line after its leading word, in one pass: each is found, tested and read once.
-// (01, Tables.) What the fields are expected to be is a shape, a letter for each: `n` a number, `k`
-// a kind, `l` a level.
+// The fields of a line after its leading word, in one pass: each is found, tested and read where it
+// stands, and the last one ends the line. (01, Tables.) What the fields are expected to be is a
+// shape, a letter for each: `n` a number, `k` a kind, `l` a level.
 
+use decimal::Field;
+use decimal::LINE_FEED;
 use decimal::Number;
-use decimal::TAB;
 use laws::Found;
 use table::THE_LINE;
 ghost use mathlib.Core.Path.{_≡_};
-ghost use mathlib.Core.List.{map};
 ghost use Prim.Native.Nat.{_≤_, _<_};
 ghost use lib.ListN.{length};
-ghost use Rattle.decimal.specs.Lines.{tab, split};
 ghost use Rattle.text.specs.Line.{aKind, aLevel};
-ghost use Rattle.reader.specs.Inner.Fields.{expectedOf, readField, firstOf, noFields, noted, counted, passed};
+ghost use Rattle.reader.specs.Inner.Fields.{expectedOf, readField, fieldAs, firstWrong, valueIn, counted, fieldsPassed};
 
 // The most fields that a kind of line has after its leading word.
 pub const FIELDS: usize = 7;
 
-// The first field that is not as it should be, from 1, or 0 for their count; and the number of
-// each: the worth of a number, the place of a word among those of its kind.
+// The first field that is not as it should be, from 1, or 0 for their count; the number of each: the
+// worth of a number, the place of a word among those of its kind; and where the line ends.
 pub struct Fields {
     pub wrong: Found,
     pub values: [u64; FIELDS],
+    pub end: usize,
 }
 
 // event 0, timed 1
@@ -53,79 +53,83 @@ fn read_level(s: &[u8]) -> Number
     Number::Bad
 }
 
-fn read_field(s: &[u8], letter: u8) -> Number
-    ensures { λ r. ⌜ r ≡ readField (expectedOf letter) (now (s .entry)) ⌝ }
+// The field that begins at a place, by the letter of the shape.
+fn read_field(text: &[u8], at: usize, letter: u8) -> Field
+    requires { ⌜ at ≤ length (now text) ⌝ }
+    ensures { λ r. ⌜ r ≡ fieldAs (expectedOf letter) (now (text .entry)) at ⌝ }
 {
+    if letter == b'n' {
+        return decimal::read_field(text, at);
+    }
+    let end = decimal::field_end(text, at);
+    let e = end.at;
     if letter == b'k' {
-        return read_kind(s);
+        let number = read_kind(&text[at..e]);
+        return Field { number, end };
     }
-    if letter == b'l' {
-        return read_level(s);
-    }
-    decimal::read_number(s)
+    let number = read_level(&text[at..e]);
+    Field { number, end }
 }
 
-fn first_of(wrong: Found, k: usize) -> Found
-    ensures { λ r. ⌜ r ≡ firstOf wrong k ⌝ }
+// The first place that is told, field k being as it was read.
+fn first_wrong(wrong: Found, n: Number, k: usize) -> Found
+    ensures { λ r. ⌜ r ≡ firstWrong wrong n k ⌝ }
 {
-    match wrong {
-        Found::At(j) => Found::At(j),
-        Found::Nothing => Found::At(k),
-    }
-}
-
-// Field k, from 0, as it was read.
-fn note(f: Fields, k: usize, n: Number) -> Fields
-    requires { ⌜ k < 7 ⌝ }
-    ensures { λ r. ⌜ r ≡ noted f k n ⌝ }
-{
-    let mut values = f.values;
     match n {
-        Number::Value(v) => {
-            values[k] = v;
-            Fields { values, ..f }
-        }
-        Number::Bad => {
-            let before = f.wrong;
-            let wrong = first_of(before, k + 1);
-            Fields { wrong, values }
-        }
+        Number::Value(_) => wrong,
+        Number::Bad => match wrong {
+            Found::At(j) => Found::At(j),
+            Found::Nothing => Found::At(k),
+        },
+    }
+}
+
+// Of a field that is not as expected the number is never asked for.
+fn value_in(n: Number) -> u64
+    ensures { λ r. ⌜ r ≡ valueIn n ⌝ }
+{
+    match n {
+        Number::Value(v) => v,
+        Number::Bad => 0,
     }
 }
 
 // The line ends after n fields: their count is told before any field.
-fn count(f: Fields, n: usize, least: usize) -> Fields
-    ensures { λ r. ⌜ r ≡ counted least n f ⌝ }
+fn count(wrong: Found, n: usize, least: usize) -> Found
+    ensures { λ r. ⌜ r ≡ counted least n wrong ⌝ }
 {
     if n < least {
-        return Fields {
-            wrong: Found::At(THE_LINE),
-            ..f
-        };
+        return Found::At(THE_LINE);
     }
-    f
+    wrong
 }
 
-pub(crate) fn read_fields(line: &[u8], shape: &[u8], least: usize) -> Fields
-    requires { ⌜ length (now shape) ≤ 7 ⌝ }
-    ensures { λ r. ⌜ r ≡ passed least (map expectedOf (now (shape .entry))) 0 noFields (split tab (now (line .entry))) ⌝ }
+pub(crate) fn read_fields(text: &[u8], from: usize, shape: &[u8], least: usize) -> Fields
+    requires { ⌜ (from ≤ length (now text)) × (length (now shape) ≤ 7) ⌝ }
+    ensures { λ r. ⌜ r ≡ fieldsPassed least (now (shape .entry)) (now (text .entry)) from ⌝ }
 {
-    let mut f = Fields {
-        wrong: Found::Nothing,
-        values: [0; FIELDS],
-    };
-    let mut at = 0;
+    let mut values = [0; FIELDS];
+    let mut wrong = Found::Nothing;
+    let mut at = from;
     for k in 0..shape.len() {
-        let e = bytes::scan::find(line, at, line.len(), TAB);
-        let n = read_field(&line[at..e], shape[k]);
-        f = note(f, k, n);
-        if e == line.len() {
-            return count(f, k + 1, least);
+        let f = read_field(text, at, shape[k]);
+        let n = f.number;
+        values[k] = value_in(n);
+        wrong = first_wrong(wrong, n, k + 1);
+        if !f.end.more {
+            let told = count(wrong, k + 1, least);
+            return Fields {
+                wrong: told,
+                values,
+                end: f.end.at,
+            };
         }
-        at = e + 1;
+        at = f.end.at + 1;
     }
+    let end = bytes::scan::find(text, at, text.len(), LINE_FEED);
     Fields {
         wrong: Found::At(THE_LINE),
-        ..f
+        values,
+        end,
     }
 }

@@ -3,7 +3,7 @@
 // least.
 
 use crate::fields;
-use decimal::TAB;
+use decimal::LINE_FEED;
 use laws::Found;
 use table::Kind;
 use table::Level;
@@ -15,11 +15,26 @@ use text::Times;
 use text::Word;
 use units::Micros;
 ghost use mathlib.Core.Path.{_≡_};
-ghost use mathlib.Core.List.{_∷_};
-ghost use Rattle.decimal.specs.Lines.{tab, split};
-ghost use Rattle.text.specs.declared.Line.the-variants.{OfTick, OfServer, OfTask};
-ghost use Rattle.text.specs.Line.{tickForm, serverForm, taskForm, microsAt, serverSaid, taskSaid, formed, leading, lineOf, readLine};
+ghost use Prim.Native.Nat.{_≤_};
+ghost use lib.ListN.{length, take};
+ghost use Rattle.decimal.specs.Lines.{same};
+ghost use Rattle.text.specs.declared.Word.the-variants.{ATick, AServer, ATask};
+ghost use Rattle.text.specs.Line.{leading};
 ghost use Rattle.reader.specs.Inner.Fields.{kindAt, levelAt};
+ghost use Rattle.reader.specs.Inner.Lines.{readBehind, firstRead};
+
+// Where the fields begin behind a leading word and its tab.
+const BEHIND_TICK: usize = 5;
+
+const BEHIND_SERVER: usize = 7;
+
+const BEHIND_TASK: usize = 5;
+
+// What a line says, and where it ends.
+pub struct LineRead {
+    pub line: Line,
+    pub end: usize,
+}
 
 fn kind_at(v: u64) -> Kind
     ensures { λ r. ⌜ r ≡ kindAt v ⌝ }
@@ -42,25 +57,32 @@ fn level_at(v: u64) -> Level
     Level::LO
 }
 
-fn tick_line(rest: &[u8]) -> Line
-    ensures { λ r. ⌜ r ≡ formed tickForm (split tab (now (rest .entry))) (OfTick (microsAt (split tab (now (rest .entry))) 1)) ⌝ }
+fn tick_line(text: &[u8], from: usize) -> LineRead
+    requires { ⌜ from ≤ length (now text) ⌝ }
+    ensures { λ r. ⌜ r ≡ readBehind ATick (now (text .entry)) from ⌝ }
 {
-    let f = fields::read_fields(rest, b"n", 1);
+    let f = fields::read_fields(text, from, b"n", 1);
+    let end = f.end;
     let wrong = f.wrong;
     if let Found::At(field) = wrong {
-        return Line::Malformed(Word::ATick, field);
+        let line = Line::Malformed(Word::ATick, field);
+        return LineRead { line, end };
     }
     let v = f.values;
-    Line::OfTick(Micros(v[0]))
+    let line = Line::OfTick(Micros(v[0]));
+    LineRead { line, end }
 }
 
-fn server_line(rest: &[u8]) -> Line
-    ensures { λ r. ⌜ r ≡ formed serverForm (split tab (now (rest .entry))) (OfServer (serverSaid (split tab (now (rest .entry))))) ⌝ }
+fn server_line(text: &[u8], from: usize) -> LineRead
+    requires { ⌜ from ≤ length (now text) ⌝ }
+    ensures { λ r. ⌜ r ≡ readBehind AServer (now (text .entry)) from ⌝ }
 {
-    let f = fields::read_fields(rest, b"nknnnnn", 7);
+    let f = fields::read_fields(text, from, b"nknnnnn", 7);
+    let end = f.end;
     let wrong = f.wrong;
     if let Found::At(field) = wrong {
-        return Line::Malformed(Word::AServer, field);
+        let line = Line::Malformed(Word::AServer, field);
+        return LineRead { line, end };
     }
     let v = f.values;
     let kind = kind_at(v[1]);
@@ -69,22 +91,26 @@ fn server_line(rest: &[u8]) -> Line
         d1: Micros(v[5]),
         d2: Micros(v[6]),
     };
-    Line::OfServer(ServerLine {
+    let line = Line::OfServer(ServerLine {
         partition: v[0],
         kind,
         priority: v[2],
         period: Micros(v[3]),
         capacity,
-    })
+    });
+    LineRead { line, end }
 }
 
-fn task_line(rest: &[u8]) -> Line
-    ensures { λ r. ⌜ r ≡ formed taskForm (split tab (now (rest .entry))) (OfTask (taskSaid (split tab (now (rest .entry))))) ⌝ }
+fn task_line(text: &[u8], from: usize) -> LineRead
+    requires { ⌜ from ≤ length (now text) ⌝ }
+    ensures { λ r. ⌜ r ≡ readBehind ATask (now (text .entry)) from ⌝ }
 {
-    let f = fields::read_fields(rest, b"nnnlnnn", 7);
+    let f = fields::read_fields(text, from, b"nnnlnnn", 7);
+    let end = f.end;
     let wrong = f.wrong;
     if let Found::At(field) = wrong {
-        return Line::Malformed(Word::ATask, field);
+        let line = Line::Malformed(Word::ATask, field);
+        return LineRead { line, end };
     }
     let v = f.values;
     let level = level_at(v[3]);
@@ -93,13 +119,14 @@ fn task_line(rest: &[u8]) -> Line
         d1: Micros(v[5]),
         d2: Micros(v[6]),
     };
-    Line::OfTask(TaskLine {
+    let line = Line::OfTask(TaskLine {
         home: v[0],
         degraded: v[1],
         priority: v[2],
         level,
         limit,
-    })
+    });
+    LineRead { line, end }
 }
 
 fn leading_word(w: &[u8]) -> Word
@@ -117,27 +144,34 @@ fn leading_word(w: &[u8]) -> Word
     Word::Unknown
 }
 
-// The leading word is looked at once; the fields after it are then read as the form of such a line
-// asks.
-fn formed_line(word: &[u8], rest: &[u8]) -> Line
-    ensures { λ r. ⌜ r ≡ lineOf (now (word .entry) ∷ split tab (now (rest .entry))) ⌝ }
+fn begins(text: &[u8], word: &[u8]) -> bool
+    ensures { λ r. ⌜ r ≡ same (take (length (now (word .entry))) (now (text .entry))) (now (word .entry)) ⌝ }
 {
-    match leading_word(word) {
-        Word::ATick => tick_line(rest),
-        Word::AServer => server_line(rest),
-        Word::ATask => task_line(rest),
-        Word::Unknown => Line::Malformed(Word::Unknown, THE_LINE),
+    if text.len() < word.len() {
+        return false;
     }
+    decimal::is_same(&text[..word.len()], word)
 }
 
-// A word alone has no form: a field is missing.
-pub(crate) fn read_line(l: &[u8]) -> Line
-    ensures { λ r. ⌜ r ≡ readLine (now (l .entry)) ⌝ }
+// The line at the front of some text. Its leading word, with the tab after it, is compared where it
+// stands; the fields are then read as the form of such a line asks. A word alone has no form: a
+// field is missing.
+pub(crate) fn read_line(text: &[u8]) -> LineRead
+    ensures { λ r. ⌜ r ≡ firstRead (now (text .entry)) ⌝ }
 {
-    let e = bytes::scan::find(l, 0, l.len(), TAB);
-    if e == l.len() {
-        let word = leading_word(l);
-        return Line::Malformed(word, THE_LINE);
+    if begins(text, b"server\t") {
+        return server_line(text, BEHIND_SERVER);
     }
-    formed_line(&l[..e], &l[e + 1..])
+    if begins(text, b"task\t") {
+        return task_line(text, BEHIND_TASK);
+    }
+    if begins(text, b"tick\t") {
+        return tick_line(text, BEHIND_TICK);
+    }
+    let first = decimal::field_end(text, 0);
+    let e = first.at;
+    let word = leading_word(&text[..e]);
+    let end = bytes::scan::find(text, e, text.len(), LINE_FEED);
+    let line = Line::Malformed(word, THE_LINE);
+    LineRead { line, end }
 }

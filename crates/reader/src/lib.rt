@@ -69,9 +69,10 @@ fn end(n: usize, t: Table) -> Read
 }
 
 // What a text says: its table, or why it is none. "a line begins anywhere in the lent text and is
-// read there": line n begins at `at`, and its part of the text is lent from the middle. A line is
-// judged by the two rows that it names, and its row is put behind those in use: a table or an array
-// of rows handed to a function would be copied whole, for every line.
+// read there": line n begins at `at`, and the text is lent from there on; the walk that reads the
+// line finds where it ends. A line is judged by the two rows that it names, and its row is put
+// behind those in use: a table or an array of rows handed to a function would be copied whole, for
+// every line.
 pub fn read_table(text: &[u8]) -> Read
     ensures { λ r. ⌜ r ≡ shown (read (now (text .entry))) ⌝ }
 {
@@ -82,16 +83,18 @@ pub fn read_table(text: &[u8]) -> Read
     let mut at = 0;
     let mut n = 1;
     loop {
-        let e = bytes::scan::find(text, at, text.len(), decimal::LINE_FEED);
-        if e == text.len() {
-            if at < e {
-                return refuse(Refusal::Malformed, n, THE_LINE);
-            }
+        if at == text.len() {
             return end(n, t);
         }
-        let l = forms::read_line(&text[at..e]);
-        let i = rules::home_row(l);
-        let j = rules::degraded_row(l);
+        let r = forms::read_line(&text[at..]);
+        let e = at + r.end;
+        if e == text.len() {
+            return refuse(Refusal::Malformed, n, THE_LINE);
+        }
+        let l = r.line;
+        let named = rules::named_rows(l);
+        let i = named.home;
+        let j = named.degraded;
         let h = t.servers[i];
         let d = t.servers[j];
         let standing = rules::line_standing(n, t.tick, t.nservers, t.ntasks, h, d, l);

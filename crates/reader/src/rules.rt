@@ -25,7 +25,7 @@ ghost use Rattle.table.specs.Rules.{tickKeeps};
 ghost use Rattle.text.specs.Line.{wordOf};
 ghost use Rattle.text.specs.Standing.{serverBounds, serverWhole, taskBounds};
 ghost use Rattle.reader.specs.Inner.{placedBy, tickStanding, serverStanding, taskStanding};
-ghost use Rattle.reader.specs.Inner.{homeRow, degradedRow, standingBy};
+ghost use Rattle.reader.specs.Inner.{namedRows, standingBy};
 
 fn server_bounds(rows: usize, tick: Micros, s: ServerLine) -> Found
     requires { ⌜ tick .0 ≤ 10000 ⌝ }
@@ -155,26 +155,28 @@ fn task_standing(
     table::rows_fault(count, h, d, k.home, k.degraded, limit)
 }
 
-// Where the two server rows that a task line names are read; a line that names none has row 0.
-pub(crate) fn home_row(l: Line) -> usize
-    ensures { λ r. ⌜ r ≡ homeRow l ⌝ }
-{
-    match l {
-        Line::OfTick(_) => 0,
-        Line::OfServer(_) => 0,
-        Line::OfTask(k) => table::row_in(k.home),
-        Line::Malformed(_, _) => 0,
-    }
+// Where the two server rows that a task line names are read; for a line that names none, row 0 is.
+pub struct Named {
+    pub home: usize,
+    pub degraded: usize,
 }
 
-pub(crate) fn degraded_row(l: Line) -> usize
-    ensures { λ r. ⌜ r ≡ degradedRow l ⌝ }
+pub(crate) fn named_rows(l: Line) -> Named
+    ensures { λ r. ⌜ r ≡ namedRows l ⌝ }
 {
+    let none = Named {
+        home: 0,
+        degraded: 0,
+    };
     match l {
-        Line::OfTick(_) => 0,
-        Line::OfServer(_) => 0,
-        Line::OfTask(k) => table::row_in(k.degraded),
-        Line::Malformed(_, _) => 0,
+        Line::OfTick(_) => none,
+        Line::OfServer(_) => none,
+        Line::OfTask(k) => {
+            let home = table::row_in(k.home);
+            let degraded = table::row_in(k.degraded);
+            Named { home, degraded }
+        }
+        Line::Malformed(_, _) => none,
     }
 }
 

@@ -1,7 +1,7 @@
 -- The first pair of equal priorities: what it is, that nothing else is it, and that there is none exactly where all differ.
 -- Each of the two searches has one answer, and nested loops over the rows find it. Assumes nothing.
 use mathlib.Core.Path.{_≡_, refl, sym, ap, _∙_}
-use mathlib.Core.Bool.{Bool, true, false, not}
+use mathlib.Core.Bool.{true, false, not}
 use mathlib.Core.Logic.{inl, inr}
 use mathlib.Core.List.{List}
 use Prim.Native.Nat.{ℕ, suc, _+_, _-_, _≤_, _<_, min}
@@ -15,7 +15,7 @@ use Rattle.laws.specs.declared.Found.{Found}
 use Rattle.laws.specs.declared.Found.the-variants.{At, Nothing}
 use Rattle.laws.specs.Search.{least, isFound}
 use Rattle.laws.specs.Rows.{allBelow}
-use Rattle.laws.proofs.Choice.{clash, le-or-lt}
+use Rattle.laws.proofs.Choice.{clash, is-false, le-or-lt}
 use Rattle.laws.proofs.Search.{hit, miss, is-least, found-passes, found-first, none-passes}
 use Rattle.laws.proofs.Rows.{all-at, all-build}
 use Rattle.table.specs.declared.Pair.{Pair}
@@ -158,15 +158,11 @@ pair-differ n p e = differ-build n p (pair-none n p e)
 pub differ-found : (n : ℕ) (p : ℕ → ℕ) → isDiffer (firstPair n p) ≡ differ n p
 differ-found n p = go (firstPair n p) refl
   where
-    no-rule : (b : Bool) → (b ≡ true → ⊥) → false ≡ b
-    no-rule true h = absurd (h refl)
-    no-rule false h = refl
-
     go : (a : Pair) → firstPair n p ≡ a → isDiffer a ≡ differ n p
     go Differ e = sym (pair-differ n p e)
     go (Equal i j) e =
         let f = pair-found n p i j e in
-        no-rule (differ n p) (λ d. differ-at n p d i j (f .ordered) (f .below) (f .equal))
+        sym (is-false (differ n p) (λ d. differ-at n p d i j (f .ordered) (f .below) (f .equal)))
 
 -- A search row by row that has come to row j after row i: no pair before it is equal.
 pub record Sought (n : ℕ) (p : ℕ → ℕ) (i j : ℕ) : Type 0 where

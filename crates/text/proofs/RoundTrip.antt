@@ -195,7 +195,7 @@ rows-table a e =
     rw (p, q, table-rows a) e
 
 -- and has the length of its arrays, where these rows are not too many
-table-sized : (a : Rows) → length (a .servers) ≤ 32 → length (a .tasks) ≤ 64 → Sized (tableOf a)
+pub table-sized : (a : Rows) → length (a .servers) ≤ 32 → length (a .tasks) ≤ 64 → Sized (tableOf a)
 unfolding tableOf
 table-sized a h g =
     record { servers = long (a .servers) 32 noServer h; tasks = long (a .tasks) 64 noTask g }

@@ -9,8 +9,8 @@ use native.Mathlib.Omega.{arith}
 use native.Mathlib.Nat.{add-zero, zero-add}
 use native.Mathlib.Numerals.{add-one}
 use lib.Dec.{ltb}
-use lib.ListN.{length, getD, take, drop, length-drop, length-set, drop-of-length-le}
-use lib.Seq.{drop-cons, take-all, getD-set-same, getD-set-other}
+use lib.ListN.{length, getD, take, drop, set, length-set, drop-of-length-le}
+use lib.Seq.{drop-cons, getD-set-same, getD-set-other}
 use borrow.Author.Tests.{ltb-true, ltb-false, lt-leb}
 use Rattle.laws.specs.declared.Found.{Found}
 use Rattle.laws.specs.declared.Found.the-variants.{At, Nothing}
@@ -21,17 +21,26 @@ use Rattle.laws.proofs.Search.{failed-none, failed-empty, failed-here, onePast,
 use Rattle.decimal.specs.declared.Number.{Number}
 use Rattle.decimal.specs.declared.Number.the-variants.{Value, Bad}
 use Rattle.decimal.specs.Number.{readNumber}
-use Rattle.decimal.specs.Lines.{tab, split, same}
-use Rattle.decimal.proofs.Lines.{split-some, Finds, cut-at, last-at}
+use Rattle.decimal.specs.declared.End.{End}
+use Rattle.decimal.specs.declared.Field.{Field}
+use Rattle.decimal.specs.Lines.{tab, same}
+use Rattle.decimal.specs.Inner.Fields.{firstLine, fieldsFrom, firstField, fieldEnd, fieldFrom}
+use Rattle.decimal.proofs.Lines.{split-some}
+use Rattle.decimal.proofs.Inner.Fields.{end-taken, field-more, field-last, line-behind-tab}
 use Rattle.text.specs.Words.{eventWord, timedWord, loWord, miWord, hiWord}
 use Rattle.text.specs.Line.{Expected, aNumber, aKind, aLevel, fits, Form, fieldTests, formTests}
 use Rattle.reader.specs.declared.fields.Fields.{Fields}
-use Rattle.reader.specs.Inner.Fields.{expectedOf, valueOf, readField, firstOf, noFields, noted, counted, passed}
+use Rattle.reader.specs.Inner.Fields.{expectedOf, valueOf, readField, fieldAs, lineEnd, firstWrong, valueIn, noFields, noted, counted, telling, passed}
 
--- one field, read
-pub read-number-field : (f : List ℕ) → readNumber f ≡ readField aNumber f
-unfolding readNumber readField
-read-number-field f = refl
+-- one field, read where it stands
+pub number-field : (text : List ℕ) (at : ℕ) → fieldFrom text at ≡ fieldAs aNumber text at
+unfolding fieldFrom fieldAs readNumber readField
+number-field text at = refl
+
+pub word-field : (x : Expected) (text : List ℕ) (at : ℕ) (n : Number) (e : End) → e ≡ fieldEnd text at →
+    n ≡ readField x (take (e .at - at) (drop at text)) → record { number = n; end = e } ≡ fieldAs x text at
+unfolding fieldAs
+word-field x text at n e q r = rw (r, q, end-taken text at)
 
 module _ (f : List ℕ) where
   pub kind-timed : same f timedWord ≡ true → Value 1 ≡ readField aKind f
@@ -76,6 +85,10 @@ read-not : (e : Expected) (f : List ℕ) → fits e f ≡ false → readField e 
 unfolding readField
 read-not e f h = rw h
 
+pub noted-by : (r : Fields) (k : ℕ) (n : Number) (w : Found) (v : ℕ) → w ≡ firstWrong (r .wrong) n (k + 1) →
+    v ≡ valueIn n → record { wrong = w; values = set (r .values) k v; end = r .end } ≡ noted r k n
+noted-by r k n w v e f = rw (e, f)
+
 -- the pass, a field further
 step : (least : ℕ) (e : Expected) (es : List Expected) (k : ℕ) (r : Fields) (f : List ℕ)
     (fs : List (List ℕ)) → 0 < length fs →
@@ -85,48 +98,58 @@ step least e es k r f [] h = absurd (omega arith)
 step least e es k r f (g ∷ fs) h = refl
 
 over : (least k : ℕ) (r : Fields) (fs : List (List ℕ)) → 0 < length fs →
-    record { wrong = At 0; values = r .values } ≡ passed least [] k r fs
+    telling (At 0) r ≡ passed least [] k r fs
 unfolding passed
 over least k r [] h = absurd (omega arith)
 over least k r (f ∷ fs) h = refl
 
 -- and over the bytes of the line and the letters of the shape
-module _ (least : ℕ) (line shape : List ℕ) (k at : ℕ) (r : Fields) where
+module _ (least : ℕ) (text shape : List ℕ) (k at : ℕ) (r : Fields) where
   shape-next : k < length shape →
       map expectedOf (drop k shape) ≡
       expectedOf (getD shape k 0) ∷ map expectedOf (drop (k + 1) shape)
   shape-next h = rw (add-one k, drop-cons shape k 0 h)
 
-  pub pass-next : (e : ℕ) → k < length shape → Finds tab line at e → e < length line →
-      passed least (map expectedOf (drop k shape)) k r (split tab (drop at line)) ≡
-      passed least (map expectedOf (drop (k + 1) shape)) (k + 1)
-      (noted r k (readField (expectedOf (getD shape k 0)) (take (e - at) (drop at line))))
-      (split tab (drop (e + 1) line))
-  pass-next e h f l =
-      rw (shape-next h, cut-at tab line at e f l)
-      (step least (expectedOf (getD shape k 0)) (map expectedOf (drop (k + 1) shape)) k r
-      (take (e - at) (drop at line)) (split tab (drop (e + 1) line))
-      (split-some tab (drop (e + 1) line)))
+  module _ (f : Field) (h : k < length shape) (read : f ≡ fieldAs (expectedOf (getD shape k 0)) text at) where
+    number-read : f .number ≡ readField (expectedOf (getD shape k 0)) (firstField text at)
+    unfolding fieldAs
+    number-read = ap (λ (x : Field). x .number) read
 
-  pub pass-last : (e : ℕ) → k < length shape → Finds tab line at e → at ≤ length line →
-      length line ≤ e →
-      passed least (map expectedOf (drop k shape)) k r (split tab (drop at line)) ≡
-      counted least (k + 1)
-      (noted r k (readField (expectedOf (getD shape k 0)) (take (e - at) (drop at line))))
-  unfolding passed
-  pass-last e h f g l =
-      rw (
-        shape-next h,
-        last-at tab line at e f g l,
-        take-all (e - at) (drop at line) (omega (arith, length-drop at line)),
-      )
+    end-read : f .end ≡ fieldEnd text at
+    unfolding fieldAs
+    end-read = ap (λ (x : Field). x .end) read
+
+    pub pass-next : f .end .more ≡ true →
+        passed least (map expectedOf (drop k shape)) k r (fieldsFrom text at) ≡
+        passed least (map expectedOf (drop (k + 1) shape)) (k + 1) (noted r k (f .number))
+        (fieldsFrom text (f .end .at + 1))
+    pass-next m =
+        let cut = field-more text at (rw end-read at m) in
+        rw (shape-next h, cut .0, number-read, end-read)
+        (step least (expectedOf (getD shape k 0)) (map expectedOf (drop (k + 1) shape)) k r
+        (firstField text at) (fieldsFrom text (fieldEnd text at .at + 1))
+        (split-some tab (firstLine (drop (fieldEnd text at .at + 1) text))))
+
+    pub line-next : f .end .more ≡ true → lineEnd text at ≡ lineEnd text (f .end .at + 1)
+    line-next m = rw end-read (line-behind-tab text at (rw end-read at m))
+
+    pub next-within : f .end .more ≡ true → f .end .at < length text
+    next-within m = rw end-read (field-more text at (rw end-read at m) .1)
+
+    pub pass-last : f .end .more ≡ false →
+        passed least (map expectedOf (drop k shape)) k r (fieldsFrom text at) ≡
+        telling (counted least (k + 1) (noted r k (f .number) .wrong)) (noted r k (f .number))
+    unfolding passed
+    pass-last m = rw (shape-next h, field-last text at (rw end-read at m) .0, number-read)
+
+    pub line-last : f .end .more ≡ false → lineEnd text at ≡ f .end .at
+    line-last m = rw end-read (field-last text at (rw end-read at m) .1)
 
   pub pass-over : length shape ≤ k →
-      record { wrong = At 0; values = r .values } ≡
-      passed least (map expectedOf (drop k shape)) k r (split tab (drop at line))
+      telling (At 0) r ≡ passed least (map expectedOf (drop k shape)) k r (fieldsFrom text at)
   pass-over h =
       rw (drop-of-length-le shape h)
-      (over least k r (split tab (drop at line)) (split-some tab (drop at line)))
+      (over least k r (fieldsFrom text at) (split-some tab (firstLine (drop at text))))
 
 -- a place among the tests from field k on, as a field
 abbrev from : ℕ → Found → Found
@@ -157,7 +180,7 @@ or-none : (w : Found) (k : ℕ) → w ≡ orElse w (from k (firstFailed []))
 or-none (At j) k = refl
 or-none Nothing k = rw failed-empty
 
-or-first : (w : Found) (k : ℕ) (g : Found) → orElse (firstOf w k) g ≡ orElse w (At k)
+or-first : (w : Found) (k : ℕ) (g : Found) → orElse (firstWrong w Bad k) g ≡ orElse w (At k)
 or-first (At j) k g = refl
 or-first Nothing k g = refl
 
@@ -185,13 +208,10 @@ too-many least m n w h =
     if-ind (λ x. At 0 ≡ x) (within least m n)
     (λ e. absurd (omega (arith, within-high least m n e))) (λ e. refl)
 
-counted-told : (least m n : ℕ) (q : Fields) → n ≤ m →
-    counted least n q .wrong ≡ told least m n (q .wrong)
-counted-told least m n q h = go (ltb n least) refl
+counted-told : (least m n : ℕ) (w : Found) → n ≤ m → counted least n w ≡ told least m n w
+counted-told least m n w h = go (ltb n least) refl
   where
-    go : (b : Bool) → ltb n least ≡ b →
-        (if b then record { wrong = At 0; values = q .values } else q) .wrong ≡
-        told least m n (q .wrong)
+    go : (b : Bool) → ltb n least ≡ b → (if b then At 0 else w) ≡ told least m n w
     go true p = rw (lt-leb least n (ltb-true n least p))
     go false p = rw (is-within least m n (ltb-false n least p) h)
 
@@ -207,7 +227,7 @@ pass-told least [] k r (f ∷ fs) h =
 pass-told least (e ∷ es) k r (f ∷ []) h =
     let q = noted r k (readField e f) in
     let m = k + length (e ∷ es) in
-    counted-told least m (k + 1) q (omega arith)
+    counted-told least m (k + 1) (q .wrong) (omega arith)
     ∙ ap (told least m (k + 1)) (or-none (q .wrong) (k + 1 + 1) ∙ noted-told r k e f [])
 pass-told least (e ∷ es) k r (f ∷ (g ∷ fs)) h =
     let m : k + 1 + length es ≡ k + length (e ∷ es) = omega arith in
@@ -217,15 +237,6 @@ pass-told least (e ∷ es) k r (f ∷ (g ∷ fs)) h =
 
 -- the numbers of the fields: those before field k stay, and field by field they are what the fields
 -- say
-counted-values : (least m : ℕ) (q : Fields) → counted least m q .values ≡ q .values
-counted-values least m q =
-    if-ind (λ (x : Fields). x .values ≡ q .values) (ltb m least) (λ a. refl) (λ a. refl)
-
-noted-below : (r : Fields) (k : ℕ) (n : Number) (j : ℕ) → j < k →
-    getD (noted r k n .values) j 0 ≡ getD (r .values) j 0
-noted-below r k (Value v) j h = getD-set-other (r .values) k j v 0 (λ e. omega arith)
-noted-below r k Bad j h = refl
-
 pass-below : (least : ℕ) (es : List Expected) (k : ℕ) (r : Fields) (fs : List (List ℕ)) (j : ℕ) →
     j < k →
     getD (passed least es k r fs .values) j 0 ≡ getD (r .values) j 0
@@ -233,20 +244,15 @@ unfolding passed
 pass-below least es k r [] j h = refl
 pass-below least [] k r (f ∷ fs) j h = refl
 pass-below least (e ∷ es) k r (f ∷ []) j h =
-    rw (counted-values least (k + 1) (noted r k (readField e f)))
-    (noted-below r k (readField e f) j h)
+    getD-set-other (r .values) k j (valueIn (readField e f)) 0 (λ e. omega arith)
 pass-below least (e ∷ es) k r (f ∷ (g ∷ fs)) j h =
     pass-below least es (k + 1) (noted r k (readField e f)) (g ∷ fs) j (omega arith)
-    ∙ noted-below r k (readField e f) j h
+    ∙ getD-set-other (r .values) k j (valueIn (readField e f)) 0 (λ e. omega arith)
 
 noted-here : (r : Fields) (k : ℕ) (e : Expected) (f : List ℕ) → fits e f ≡ true →
     k < length (r .values) →
     getD (noted r k (readField e f) .values) k 0 ≡ valueOf e f
 noted-here r k e f q h = rw (read-fits e f q) (getD-set-same (r .values) k (valueOf e f) 0 h)
-
-noted-length : (r : Fields) (k : ℕ) (n : Number) → length (noted r k n .values) ≡ length (r .values)
-noted-length r k (Value v) = length-set (r .values) k v
-noted-length r k Bad = refl
 
 pass-value : (least : ℕ) (es : List Expected) (k : ℕ) (r : Fields) (fs : List (List ℕ)) →
     every (fieldTests es fs) ≡ true → length fs ≤ length es → k + length es ≤ length (r .values) →
@@ -256,7 +262,7 @@ unfolding passed fieldTests every
 pass-value least es k r [] a n l i h = absurd (omega arith)
 pass-value least [] k r (f ∷ fs) a n l i h = absurd (omega arith)
 pass-value least (e ∷ es) k r (f ∷ []) a n l zero h =
-    rw (add-zero k, counted-values least (k + 1) (noted r k (readField e f)))
+    rw (add-zero k)
     (noted-here r k e f (and-left (fits e f) true a) (omega arith))
 pass-value least (e ∷ es) k r (f ∷ []) a n l (suc i) h = absurd (omega arith)
 pass-value least (e ∷ es) k r (f ∷ (g ∷ fs)) a n l zero h =
@@ -268,17 +274,29 @@ pass-value least (e ∷ es) k r (f ∷ (g ∷ fs)) a n l (suc i) h =
     rw q
     (pass-value least es (k + 1) (noted r k (readField e f)) (g ∷ fs)
     (and-right (fits e f) (every (fieldTests es (g ∷ fs))) a) (omega arith)
-    (omega (arith, noted-length r k (readField e f))) i (omega arith))
+    (omega (arith, length-set (r .values) k (valueIn (readField e f)))) i (omega arith))
+
+-- the end of the line stays as it was
+pass-end : (least : ℕ) (es : List Expected) (k : ℕ) (r : Fields) (fs : List (List ℕ)) →
+    passed least es k r fs .end ≡ r .end
+unfolding passed
+pass-end least es k r [] = refl
+pass-end least [] k r (f ∷ fs) = refl
+pass-end least (e ∷ es) k r (f ∷ []) = refl
+pass-end least (e ∷ es) k r (f ∷ (g ∷ fs)) = pass-end least es (k + 1) (noted r k (readField e f)) (g ∷ fs)
 
 -- the fields of a form: the first that is wrong, 0 for their count, and where none is the number of
 -- each
-module _ (form : Form) (fs : List (List ℕ)) where
+module _ (form : Form) (fs : List (List ℕ)) (end : ℕ) where
+  pub pass-ends : passed (form .least) (form .fields) 0 (noFields end) fs .end ≡ end
+  pass-ends = pass-end (form .least) (form .fields) 0 (noFields end) fs
+
   pub pass-wrong : 0 < length fs →
-      passed (form .least) (form .fields) 0 noFields fs .wrong ≡ firstFailed (formTests form fs)
+      passed (form .least) (form .fields) 0 (noFields end) fs .wrong ≡ firstFailed (formTests form fs)
   unfolding formTests
   pass-wrong h =
       rw (zero-add (length (form .fields)), zero-add (length fs)) at
-      (pass-told (form .least) (form .fields) 0 noFields fs h)
+      (pass-told (form .least) (form .fields) 0 (noFields end) fs h)
       ∙ go (within (form .least) (length (form .fields)) (length fs)) (fieldTests (form .fields) fs)
     where
       go : (b : Bool) (bs : List Bool) →
@@ -288,7 +306,7 @@ module _ (form : Form) (fs : List (List ℕ)) where
 
   pub pass-values : firstFailed (formTests form fs) ≡ Nothing → length (form .fields) ≤ 7 →
       (i : ℕ) → i < form .least →
-      getD (passed (form .least) (form .fields) 0 noFields fs .values) i 0 ≡
+      getD (passed (form .least) (form .fields) 0 (noFields end) fs .values) i 0 ≡
       valueOf (getD (form .fields) i aNumber) (getD fs i [])
   unfolding formTests every
   pass-values w l i h =
@@ -299,5 +317,5 @@ module _ (form : Form) (fs : List (List ℕ)) where
       let low = within-low (form .least) m (length fs) (and-left c t a) in
       let high = within-high (form .least) m (length fs) (and-left c t a) in
       rw (zero-add i) at
-      (pass-value (form .least) (form .fields) 0 noFields fs (and-right c t a) high (omega arith) i
+      (pass-value (form .least) (form .fields) 0 (noFields end) fs (and-right c t a) high (omega arith) i
       (omega arith))

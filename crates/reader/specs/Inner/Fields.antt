@@ -1,17 +1,19 @@
 -- Only contracts of inner functions cite this file; a buyer need not read it. It says what one pass
--- over the fields of a line finds: the first field that is not as it should be, and the number of
--- each field.
-use mathlib.Core.List.{List, [], _∷_}
+-- over the fields of a line finds: the first field that is not as it should be, the number of each,
+-- and where the line ends.
+use mathlib.Core.List.{List, [], _∷_, map}
 use Prim.Native.Nat.{ℕ, _+_}
 use lib.Dec.{ltb, eqb}
-use lib.ListN.{set, replicate}
+use lib.ListN.{length, drop, set, replicate}
 use Rattle.laws.specs.Choice.{if_then_else_}
 use Rattle.laws.specs.declared.Found.{Found}
 use Rattle.laws.specs.declared.Found.the-variants.{At, Nothing}
 use Rattle.decimal.specs.declared.Number.{Number}
 use Rattle.decimal.specs.declared.Number.the-variants.{Value, Bad}
 use Rattle.decimal.specs.Number.{worth}
+use Rattle.decimal.specs.declared.Field.{Field}
 use Rattle.decimal.specs.Lines.{same}
+use Rattle.decimal.specs.Inner.Fields.{firstLine, fieldsFrom, firstField, fieldEnd}
 use Rattle.table.specs.declared.Kind.{Kind}
 use Rattle.table.specs.declared.Kind.the-variants.{Event, Timed}
 use Rattle.table.specs.declared.Level.{Level}
@@ -20,9 +22,9 @@ use Rattle.text.specs.Words.{timedWord, miWord, hiWord}
 use Rattle.text.specs.Line.{Expected, aNumber, aKind, aLevel, fits}
 use Rattle.reader.specs.declared.fields.Fields.{Fields}
 
--- what a letter of a shape stands for: `k` a kind, `l` a level, `n` a number
+-- what a letter of a shape stands for: `n` a number, `k` a kind, `l` a level
 abbrev pub expectedOf : ℕ → Expected
-expectedOf letter = if eqb letter 107 then aKind else if eqb letter 108 then aLevel else aNumber
+expectedOf letter = if eqb letter 110 then aNumber else if eqb letter 107 then aKind else aLevel
 
 -- the number of a field that is as expected: the worth of a number, the place of a word among those
 -- of its kind
@@ -40,27 +42,51 @@ levelAt v = if eqb v 2 then HI else if eqb v 1 then MI else LO
 unfoldable pub readField : Expected → List ℕ → Number
 readField e f = if fits e f then Value (valueOf e f) else Bad
 
--- the first place that is told
-abbrev pub firstOf : Found → ℕ → Found
-firstOf (At j) k = At j
-firstOf Nothing k = At k
+-- the field that begins at a place of a text, read so
+unfoldable pub fieldAs : Expected → List ℕ → ℕ → Field
+fieldAs e text at = record { number = readField e (firstField text at); end = fieldEnd text at }
 
-abbrev pub noFields : Fields
-noFields = record { wrong = Nothing; values = replicate 7 0 }
+-- where the line ends in which a place of a text lies
+abbrev pub lineEnd : List ℕ → ℕ → ℕ
+lineEnd text at = at + length (firstLine (drop at text))
+
+-- the first place that is told, field k being as it was read
+abbrev pub firstWrong : Found → Number → ℕ → Found
+firstWrong wrong (Value v) k = wrong
+firstWrong (At j) Bad k = At j
+firstWrong Nothing Bad k = At k
+
+abbrev pub valueIn : Number → ℕ
+valueIn (Value v) = v
+valueIn Bad = 0
+
+-- nothing is told yet of a line that ends at a place
+abbrev pub noFields : ℕ → Fields
+noFields end = record { wrong = Nothing; values = replicate 7 0; end = end }
 
 -- with field k, from 0, as it was read
 abbrev pub noted : Fields → ℕ → Number → Fields
-noted r k (Value v) = record { wrong = r .wrong; values = set (r .values) k v }
-noted r k Bad = record { wrong = firstOf (r .wrong) (k + 1); values = r .values }
+noted r k n =
+    record { wrong = firstWrong (r .wrong) n (k + 1); values = set (r .values) k (valueIn n); end = r .end }
 
 -- the line ends after n fields: too few are told before any field
-abbrev pub counted : ℕ → ℕ → Fields → Fields
-counted least n r = if ltb n least then record { wrong = At 0; values = r .values } else r
+abbrev pub counted : ℕ → ℕ → Found → Found
+counted least n wrong = if ltb n least then At 0 else wrong
+
+-- another place told, and all else as it was
+abbrev pub telling : Found → Fields → Fields
+telling wrong r = record { wrong = wrong; values = r .values; end = r .end }
 
 -- From field k on, r being what the fields before it gave; too many are told before any field.
 -- (There is always a field.)
 unfoldable pub passed : ℕ → List Expected → ℕ → Fields → List (List ℕ) → Fields
 passed least es k r [] = r
-passed least [] k r (f ∷ fs) = record { wrong = At 0; values = r .values }
-passed least (e ∷ es) k r (f ∷ []) = counted least (k + 1) (noted r k (readField e f))
+passed least [] k r (f ∷ fs) = telling (At 0) r
+passed least (e ∷ es) k r (f ∷ []) =
+    let q = noted r k (readField e f) in telling (counted least (k + 1) (q .wrong)) q
 passed least (e ∷ es) k r (f ∷ (g ∷ fs)) = passed least es (k + 1) (noted r k (readField e f)) (g ∷ fs)
+
+-- the fields from a place of a text on, as a shape expects them, up to the end of the line
+abbrev pub fieldsPassed : ℕ → List ℕ → List ℕ → ℕ → Fields
+fieldsPassed least shape text from =
+    passed least (map expectedOf shape) 0 (noFields (lineEnd text from)) (fieldsFrom text from)

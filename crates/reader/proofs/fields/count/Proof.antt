@@ -4,7 +4,7 @@ use Rattle.reader.proofs.fields.count.Statement.{statement}
 use Rattle.reader.proofs.fields.count.Tie as tie
 
 returns : tie.Need-returns
-returns c = rw (lt-ltb _ _ (c .before .if1 .taken))
+returns c = rw (lt-ltb _ _ (c .if1 .taken))
 
 returns-2 : tie.Need-returns-2
 returns-2 c = rw (le-ltb _ _ (c .if1 .left))

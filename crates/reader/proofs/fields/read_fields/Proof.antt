@@ -1,89 +1,122 @@
 -- `reader::fields::read_fields` meets its contract: k fields are behind `at`, and those from there
--- on give the rest. Assumes nothing.
+-- on give the rest; the line ends where it does seen from there. Assumes nothing.
 use mathlib.Core.Path.{_≡_, refl, sym, ap, _∙_}
 use mathlib.Core.List.{map}
 use Prim.Native.Nat.{_+_, _-_, _≤_, _<_}
 use native.Mathlib.Omega.{arith}
 use borrow.Author.Needs.{needs}
-use lib.Arith.{lt-of-le-ne}
-use lib.ListN.{length, getD, take, drop}
-use Rattle.decimal.specs.Lines.{tab, split}
-use Rattle.reader.specs.Inner.Fields.{expectedOf, readField, noFields, noted, counted, passed}
-use Rattle.reader.proofs.Inner.Fields.{pass-next, pass-last, pass-over}
+use borrow.Author.Tests.{not-true, not-false}
+use lib.ListN.{length, set, drop}
+use Rattle.decimal.specs.Inner.Fields.{fieldsFrom}
+use Rattle.decimal.proofs.Inner.Fields.{line-found}
+use Rattle.reader.specs.declared.fields.Fields.{Fields}
+use Rattle.reader.specs.Inner.Fields.{expectedOf, lineEnd, noted, counted, telling, passed, fieldsPassed}
+use Rattle.reader.proofs.Inner.Fields.{noted-by, pass-next, pass-last, pass-over, line-next, line-last, next-within}
 use Rattle.reader.proofs.fields.read_fields.Statement.{statement}
 use Rattle.reader.proofs.fields.read_fields.Tie as tie
 
 abbrev Inv-loop : tie.InvT-loop
-Inv-loop line shape least f₀ at₀ k₀ k-end f at k =
+Inv-loop text from shape least values₀ wrong₀ at₀ k₀ k-end values wrong at k =
     (k ≤ length shape)
-    × (at ≤ length line)
-    × (passed least (map expectedOf shape) 0 noFields (split tab line)
-    ≡ passed least (map expectedOf (drop k shape)) k f (split tab (drop at line)))
+    × (at ≤ length text)
+    × (fieldsPassed least shape text from ≡
+    passed least (map expectedOf (drop k shape)) k
+    (record { wrong = wrong; values = values; end = lineEnd text from }) (fieldsFrom text at))
+    × (lineEnd text from ≡ lineEnd text at)
 
 abbrev μ-loop : tie.MeasureT-loop
-μ-loop line shape least f₀ at₀ k₀ k-end f at k = length shape - k
+μ-loop text from shape least values₀ wrong₀ at₀ k₀ k-end values wrong at k = length shape - k
 
 loop-holds : tie.Need-loop-holds Inv-loop μ-loop
-loop-holds c = (omega arith, omega arith, refl)
+loop-holds c = (omega arith, omega arith, refl, refl)
 
-find-requires : tie.Need-find-requires Inv-loop μ-loop
-find-requires c κs = (omega arith, omega arith)
+-- what the fields before k gave, and field k with it
+abbrev before : (c : tie.After-read-field Inv-loop μ-loop) → Fields
+before c =
+    let l = c .before .before .before .loop in
+    let a = c .before .before .before .before .before .before .args in
+    record { wrong = l .wrong; values = l .values; end = lineEnd (a .text .now) (a .from) }
 
--- field k, read of its part of the line
-read : (c : tie.After-note Inv-loop μ-loop) →
-    let f = c .before .before .before .before in
-    let l = f .before .before .loop in
-    let a = f .before .before .before .before .before .args in
-    c .note .result ≡ noted (l .f) (l .k)
-    (readField (expectedOf (getD (a .shape .now) (l .k) 0))
-    (take (f .find .result - l .at) (drop (l .at) (a .line .now))))
-read c =
-    let f = c .before .before .before .before in
-    let l = f .before .before .loop in
-    c .note .ensures ∙ ap (noted (l .f) (l .k)) (c .before .read-field .ensures)
+with-it : (c : tie.After-first-wrong Inv-loop μ-loop) →
+    let r = c .before .before in
+    let l = r .before .before .before .loop in
+    record {
+      wrong = c .first-wrong .result;
+      values = set (l .values) (l .k) (c .before .value-in .result);
+      end = before r .end;
+    } ≡ noted (before r) (l .k) (r .read-field .result .number)
+with-it c =
+    let r = c .before .before in
+    noted-by (before r) (r .before .before .before .loop .k) (r .read-field .result .number)
+    (c .first-wrong .result) (c .before .value-in .result) (c .first-wrong .ensures)
+    (c .before .value-in .ensures)
+
+-- a field is followed by another within the text
+onward : (c : tie.Else1 Inv-loop μ-loop) →
+    let r = c .before .before .before .before in
+    r .read-field .result .end .at < length (r .before .before .before .before .before .before .args .text .now)
+onward c =
+    let r = c .before .before .before .before in
+    let l = r .before .before .before .loop in
+    let a = r .before .before .before .before .before .before .args in
+    next-within (a .least) (a .text .now) (a .shape .now) (l .k) (l .at) (before r)
+    (r .read-field .result) (omega arith) (r .read-field .ensures) (not-false _ (c .if1 .left))
 
 returns : tie.Need-returns Inv-loop μ-loop
 returns c =
-    let n = c .before .before in
-    let f = n .before .before .before .before in
-    let l = f .before .before .loop in
-    let a = f .before .before .before .before .before .args in
-    c .count .ensures
-    ∙ ap (counted (a .least) (l .k + 1)) (read n)
+    let t = c .before in
+    let w = t .before .before in
+    let r = w .before .before in
+    let f = r .read-field in
+    let l = r .before .before .before .loop in
+    let a = r .before .before .before .before .before .before .args in
+    let none = not-true _ (t .if1 .taken) in
+    let ends = line-last (a .least) (a .text .now) (a .shape .now) (l .k) (l .at) (before r) (f .result)
+    (omega arith) (f .ensures) none in
+    rw (c .count .ensures, sym (l .inv .3 ∙ ends))
+    (ap (λ (x : Fields). telling (counted (a .least) (l .k + 1) (x .wrong)) x) (with-it w)
     ∙ sym
-    (pass-last (a .least) (a .line .now) (a .shape .now) (l .k) (l .at) (l .f) (f .find .result)
-    (omega arith) (f .find .ensures .0) (omega arith) (omega arith))
-    ∙ sym (l .inv .2)
+    (l .inv .2
+    ∙ pass-last (a .least) (a .text .now) (a .shape .now) (l .k) (l .at) (before r) (f .result)
+    (omega arith) (f .ensures) none))
 
 loop-again : tie.Need-loop-again Inv-loop μ-loop
 loop-again c =
-    let n = c .before in
-    let f = n .before .before .before .before in
-    let l = f .before .before .loop in
-    let a = f .before .before .before .before .before .args in
-    let e = f .find .result in
-    let m : e < length (a .line .now) = lt-of-le-ne (f .find .ensures .1) (c .if1 .left) in (
+    let w = c .before .before .before in
+    let r = w .before .before in
+    let f = r .read-field in
+    let l = r .before .before .before .loop in
+    let a = r .before .before .before .before .before .before .args in
+    let more = not-false _ (c .before .if1 .left) in (
       omega arith,
-      omega arith,
+      omega (arith, onward (c .before)),
       l .inv .2
-          ∙ pass-next (a .least) (a .line .now) (a .shape .now) (l .k) (l .at) (l .f) e
-          (omega arith) (f .find .ensures .0) m
+          ∙ pass-next (a .least) (a .text .now) (a .shape .now) (l .k) (l .at) (before r) (f .result)
+          (omega arith) (f .ensures) more
           ∙ ap
           (λ x. passed (a .least) (map expectedOf (drop (l .k + 1) (a .shape .now))) (l .k + 1) x
-          (split tab (drop (e + 1) (a .line .now))))
-          (sym (read n)),
+          (fieldsFrom (a .text .now) (f .result .end .at + 1)))
+          (sym (with-it w)),
+      l .inv .3
+          ∙ line-next (a .least) (a .text .now) (a .shape .now) (l .k) (l .at) (before r) (f .result)
+          (omega arith) (f .ensures) more,
     )
 
 returns-2 : tie.Need-returns-2 Inv-loop μ-loop
 returns-2 c =
     let l = c .before .before .loop in
     let a = c .before .before .before .before .before .args in
-    pass-over (a .least) (a .line .now) (a .shape .now) (l .k) (l .at) (l .f) (omega arith)
-    ∙ sym (l .inv .2)
+    let ends = line-found (a .text .now) (l .at) (c .find .result) (c .find .ensures .0) (l .inv .1) (c .find .ensures .1) in
+    rw (sym (l .inv .3 ∙ ends))
+    (pass-over (a .least) (a .text .now) (a .shape .now) (l .k) (l .at)
+    (record { wrong = l .wrong; values = l .values; end = lineEnd (a .text .now) (a .from) }) (omega arith)
+    ∙ sym (l .inv .2))
 
 pub read-fields-spec : {M : Type 1} → statement M
 read-fields-spec =
     tie.close
-    (tie.spec Inv-loop μ-loop loop-holds find-requires (search needs) (search needs) (search needs)
-    (search needs) (λ c κs. tt) (λ c κs. omega arith) (search needs) (λ c κs. tt) returns
-    (search needs) (search needs) (λ c. omega arith) loop-again returns-2)
+    (tie.spec Inv-loop μ-loop loop-holds (search needs) (search needs) (search needs)
+    (λ c. record { fits = omega arith }) (λ c. omega arith) (search needs) (search needs)
+    (search needs) (search needs) returns
+    (λ c. record { fits = omega (arith, onward (c .before)) }) (search needs) (search needs) loop-again
+    (λ c κs. (omega arith, omega arith)) returns-2)

@@ -1,40 +1,99 @@
--- `reader::forms::read_line` meets its contract: the leading word ends before the first tab, and
--- the fields stand after it. Assumes nothing.
-use mathlib.Core.Path.{sym, ap, _∙_}
-use Prim.Native.Nat.{_<_}
+-- `reader::forms::read_line` meets its contract: the words are compared in turn, and the one that
+-- stands there, with its tab, tells the form. Assumes nothing.
+use mathlib.Core.Path.{refl, sym, ap, _∙_}
+use mathlib.Core.List.{List}
+use Prim.Native.Nat.{ℕ, _≤_}
 use native.Mathlib.Omega.{arith}
 use borrow.Author.Needs.{needs}
-use lib.Arith.{lt-of-le-ne}
 use lib.ListN.{length}
 use lib.Seq.{length-take-le}
-use Rattle.text.specs.declared.Word.{Word}
-use Rattle.text.specs.declared.Line.the-variants.{Malformed}
-use Rattle.reader.proofs.Line.{line-alone, line-parts}
+use Rattle.decimal.specs.declared.End.{End}
+use Rattle.decimal.proofs.Lines.{high}
+use Rattle.decimal.proofs.Inner.Fields.{end-within}
+use Rattle.text.specs.declared.Word.the-variants.{ATick, AServer, ATask}
+use Rattle.text.specs.Words.{tickWord, serverWord, taskWord}
+use Rattle.reader.proofs.Line.{leads-tick, leads-server, leads-task, long, line-led, no-form-read}
 use Rattle.reader.proofs.forms.read_line.Statement.{statement}
 use Rattle.reader.proofs.forms.read_line.Tie as tie
 
-returns : tie.Need-returns
-returns c =
-    let e = c .before .before in
-    let f = e .find in
-    ap (λ (w : Word). Malformed w 0) (c .leading-word .ensures)
-    ∙ line-alone (e .before .before .args .l .now) (f .result) (f .ensures .0) (omega arith)
+server-line-requires : tie.Need-server-line-requires
+unfolding high serverWord
+server-line-requires c κs =
+    let b = c .before in
+    omega
+    (arith, long (b .before .before .before .args .text .now) serverWord refl (sym (b .begins .ensures) ∙ c .if1 .taken))
 
-slice-aggregate-formed-line : tie.Need-slice-aggregate-formed-line
-slice-aggregate-formed-line c =
-    let f = c .before .before in
-    sym (length-take-le (f .find .result) (f .before .before .args .l .now) (f .find .ensures .1))
+returns : tie.Need-returns
+unfolding high serverWord
+returns c =
+    let t = c .before in
+    let b = t .before in
+    c .server-line .ensures
+    ∙ line-led (b .before .before .before .args .text .now) serverWord refl
+    (sym (b .begins .ensures) ∙ t .if1 .taken) AServer leads-server
+
+task-line-requires : tie.Need-task-line-requires
+unfolding high taskWord
+task-line-requires c κs =
+    let b = c .before in
+    let a = b .before .before .before .before .before .before in
+    omega (arith, long (a .args .text .now) taskWord refl (sym (b .begins2 .ensures) ∙ c .if2 .taken))
 
 returns-2 : tie.Need-returns-2
+unfolding high taskWord
 returns-2 c =
-    let e = c .before .before .before in
-    let f = e .before .find in
-    let l = e .before .before .before .args .l .now in
-    let m : f .result < length l = lt-of-le-ne (f .ensures .1) (e .if1 .left) in
-    c .formed-line .ensures ∙ line-parts l (f .result) (f .ensures .0) m
+    let t = c .before in
+    let b = t .before in
+    let a = b .before .before .before .before .before .before in
+    c .task-line .ensures
+    ∙ line-led (a .args .text .now) taskWord refl (sym (b .begins2 .ensures) ∙ t .if2 .taken) ATask leads-task
+
+tick-line-requires : tie.Need-tick-line-requires
+unfolding high tickWord
+tick-line-requires c κs =
+    let b = c .before in
+    let a = b .before .before .before .before .before .before .before .before .before in
+    omega (arith, long (a .args .text .now) tickWord refl (sym (b .begins3 .ensures) ∙ c .if3 .taken))
+
+returns-3 : tie.Need-returns-3
+unfolding high tickWord
+returns-3 c =
+    let t = c .before in
+    let b = t .before in
+    let a = b .before .before .before .before .before .before .before .before .before in
+    c .tick-line .ensures
+    ∙ line-led (a .args .text .now) tickWord refl (sym (b .begins3 .ensures) ∙ t .if3 .taken) ATick leads-tick
+
+-- the first field lies within the text
+abbrev textAt : tie.After-field-end → List ℕ
+textAt c = c .before .before .before .before .before .before .before .before .before .before .before .args .text .now
+
+lies : (c : tie.After-field-end) → c .field-end .result .at ≤ length (textAt c)
+lies c =
+    omega
+    (arith, ap (λ (x : End). x .at) (c .field-end .ensures), end-within (textAt c) 0 (omega arith))
+
+word-taken : tie.Need-slice-aggregate-leading-word
+word-taken c =
+    let f = c .before in
+    sym (length-take-le (f .field-end .result .at) (textAt f) (lies f))
+
+returns-4 : tie.Need-returns-4
+unfolding serverWord taskWord tickWord
+returns-4 c =
+    let f = c .before .before .before in
+    let t = f .before in
+    let k = t .before .before .before in
+    let s = k .before .before .before in
+    no-form-read (textAt f) (f .field-end .result) (c .before .leading-word .result) (c .find .result)
+    (f .field-end .ensures) (c .before .leading-word .ensures) (c .find .ensures .0) (c .find .ensures .1)
+    (sym (s .before .begins .ensures) ∙ s .if1 .left)
+    (sym (k .before .begins2 .ensures) ∙ k .if2 .left)
+    (sym (t .before .begins3 .ensures) ∙ t .if3 .left)
 
 pub read-line-spec : {M : Type 1} → statement M
 read-line-spec =
     tie.close
-    (tie.spec (search needs) (λ c κs. tt) returns slice-aggregate-formed-line (search needs)
-    (search needs) (search needs) (search needs) (λ c κs. tt) returns-2)
+    (tie.spec (λ c. refl) (search needs) server-line-requires returns (λ c. refl) (search needs)
+    task-line-requires returns-2 (λ c. refl) (search needs) tick-line-requires returns-3
+    (search needs) word-taken (search needs) (λ c κs. (lies (c .before .before), omega arith)) returns-4)

@@ -1,31 +1,33 @@
 -- `reader::forms::server_line` meets its contract: the first field that is wrong is told, and where
 -- none is, the numbers of the fields are what the line says. Assumes nothing.
 use mathlib.Core.Path.{refl}
-use native.Mathlib.Omega.{arith}
 use borrow.Author.Needs.{needs}
-use Rattle.text.specs.Line.{serverForm}
-use Rattle.reader.proofs.Line.{form-not, server-read}
+use Rattle.text.specs.Line.{serverForm, lineBy}
+use Rattle.reader.proofs.Line.{lined, form-not, server-read}
 use Rattle.reader.proofs.forms.server_line.Statement.{statement}
 use Rattle.reader.proofs.forms.server_line.Tie as tie
 
 returns : tie.Need-returns
-unfolding serverForm
+unfolding serverForm lineBy
 returns c =
     let r = c .before .before .before in
-    form-not serverForm (r .before .before .before .args .rest .now) (r .read-fields .result)
-    (r .read-fields .ensures) _ _ (c .before .wrong .given .1)
+    let a = r .before .before .before .args in
+    form-not serverForm (a .text .now) (a .from) (r .read-fields .result) (r .read-fields .ensures) _ _
+    (c .before .wrong .given .1)
 
 returns-2 : tie.Need-returns-2
-unfolding serverForm
+unfolding serverForm lineBy
 returns-2 c =
     let e = c .before .before in
     let r = e .before .before in
-    server-read (r .before .before .before .args .rest .now) (r .read-fields .result)
-    (c .kind-at .result) (c .kind-at .ensures) (r .read-fields .ensures) (e .enum-told .given .1)
+    let a = r .before .before .before .args in
+    lined serverForm (a .text .now) (a .from) (r .read-fields .result) (r .read-fields .ensures) _ _
+    (server-read (a .text .now) (a .from) (r .read-fields .result) (c .kind-at .result) (c .kind-at .ensures)
+    (r .read-fields .ensures) (e .enum-told .given .1))
 
 pub server-line-spec : {M : Type 1} → statement M
 server-line-spec =
     tie.close
-    (tie.spec (λ c. refl) (λ c κs. omega arith) (search needs) returns (search needs) (search needs)
+    (tie.spec (λ c. refl) (search needs) (search needs) returns (search needs) (search needs)
     (λ c κs. tt) (search needs) (search needs) (search needs) (search needs) (search needs)
     (search needs) returns-2)
