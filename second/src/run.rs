@@ -223,8 +223,10 @@ impl Run {
         Ok(Answer { tick, mode: self.mode, what, left, discarded })
     }
 
-    /// Step 1: the job run in the last taken tick leaves, or the mode rises,
-    /// or neither.
+    /// Step 1: the job run in the last taken tick leaves, or the mode rises, or
+    /// both, or neither. At its limit a job raises the mode by one if its level
+    /// lies above the mode's, and is judged again in the new mode; otherwise it
+    /// is cut.
     fn judge_last_job(&mut self, row: usize, mark: bool) -> Option<Left> {
         if mark {
             self.queues[row].drop_front();
@@ -232,13 +234,11 @@ impl Run {
         }
         let task = &self.table.tasks[row];
         while self.queues[row].run == task.limit_in(self.mode) {
-            match self.mode {
-                Mode::N => self.mode = Mode::D1,
-                Mode::D1 if task.level != Level::Lo => self.mode = Mode::D2,
-                Mode::D1 | Mode::D2 => {
-                    self.queues[row].drop_front();
-                    return Some(Left { how: How::Cut, task: row });
-                }
+            if task.level > self.mode.level() {
+                self.mode = self.mode.raised();
+            } else {
+                self.queues[row].drop_front();
+                return Some(Left { how: How::Cut, task: row });
             }
         }
         None

@@ -23,6 +23,23 @@ impl Mode {
         self as usize
     }
 
+    /// The level the mode counts as where a job's level is compared with it.
+    pub fn level(self) -> Level {
+        match self {
+            Mode::N => Level::Lo,
+            Mode::D1 => Level::Mi,
+            Mode::D2 => Level::Hi,
+        }
+    }
+
+    /// The next mode; D2 is the last.
+    pub fn raised(self) -> Mode {
+        match self {
+            Mode::N => Mode::D1,
+            Mode::D1 | Mode::D2 => Mode::D2,
+        }
+    }
+
     pub fn word(self) -> &'static str {
         match self {
             Mode::N => "N",
@@ -55,7 +72,8 @@ impl Kind {
     }
 }
 
-#[derive(Clone, Copy, Debug, PartialEq, Eq)]
+/// The three levels, in rising order.
+#[derive(Clone, Copy, Debug, PartialEq, Eq, PartialOrd, Ord)]
 pub enum Level {
     Lo,
     Mi,

@@ -137,24 +137,41 @@ T\t1\tN\tempty\t0\t-\tcut\t0\t2
 }
 
 #[test]
-fn a_lo_job_is_cut_in_d1_and_refused_in_d2() {
+fn a_lo_job_is_cut_in_n_and_in_d1_and_refused_in_d2() {
+    // The LO job is cut in N and the mode stays. The HI job rises to D1 and then
+    // to D2, where the next LO job is discarded.
     let table = "\
 tick\t1
 server\t0\ttimed\t1\t9\t9\t9\t9
 task\t0\t0\t8\tHI\t1\t2\t9
 task\t0\t0\t9\tLO\t1\t1\t1
 ";
-    let events = b"R\t0\nR\t1\nT\t0\nT\t0\nT\t0\nT\t0\nR\t1\n";
+    let events = b"R\t0\nR\t1\nT\t0\nT\t0\nT\t0\nR\t1\nT\t0\nR\t1\n";
     let answers = "\
 R\t0\tok
 R\t1\tok
 T\t0\tN\trun\t0\t1\t-\t-\t0
-T\t1\tD1\trun\t0\t0\tcut\t1\t0
+T\t1\tN\trun\t0\t0\tcut\t1\t0
 T\t2\tD1\trun\t0\t0\t-\t-\t0
-T\t3\tD2\trun\t0\t0\t-\t-\t0
+R\t1\tok
+T\t3\tD2\trun\t0\t0\t-\t-\t1
 R\t1\tno\t7
 ";
     assert_eq!(night(table, events), answers);
+    // With a D1 limit of 3 the LO job has its turn in D1, where it is cut.
+    let table = table.replace("HI\t1\t2\t9", "HI\t1\t3\t9");
+    let events = b"R\t0\nT\t0\nT\t0\nR\t1\nT\t0\nT\t0\nT\t0\nR\t1\n";
+    let answers = "\
+R\t0\tok
+T\t0\tN\trun\t0\t0\t-\t-\t0
+T\t1\tD1\trun\t0\t0\t-\t-\t0
+R\t1\tok
+T\t2\tD1\trun\t0\t1\t-\t-\t0
+T\t3\tD1\trun\t0\t0\tcut\t1\t0
+T\t4\tD2\trun\t0\t0\t-\t-\t0
+R\t1\tno\t7
+";
+    assert_eq!(night(&table, events), answers);
 }
 
 #[test]

@@ -141,7 +141,7 @@ fn discards_count_for_their_tasks() {
     let table = "\
 tick\t1
 server\t0\ttimed\t5\t10\t10\t10\t10
-task\t0\t0\t9\tMI\t1\t1\t3
+task\t0\t0\t9\tHI\t1\t1\t3
 task\t0\t0\t8\tLO\t2\t2\t2
 task\t0\t0\t7\tLO\t2\t2\t2
 task\t0\t0\t6\tHI\t1\t1\t1
@@ -157,6 +157,46 @@ mode\tD1\t0
 mode\tD2\t3
 ";
     assert_eq!(page(table, "R0 R1 R1 R2 R2 R2 R3 T0 T0 R1 T0 T0 T1"), expected);
+
+    // A MI job in its place rises to D1 only and is cut there, and nothing is
+    // discarded. Then task 1 runs twice and is cut, with one job more, which
+    // runs and ends; task 2 runs.
+    let table = table.replace("HI\t1\t1\t3", "MI\t1\t1\t3");
+    let expected = "\
+server\t0\t5\t0\t0
+task\t0\t0\t1\t0\t0
+task\t1\t1\t1\t0\t0
+task\t2\t0\t0\t0\t3
+task\t3\t0\t0\t0\t1
+mode\tN\t1
+mode\tD1\t4
+mode\tD2\t0
+";
+    assert_eq!(page(&table, "R0 R1 R1 R2 R2 R2 R3 T0 T0 T0 T0 T1"), expected);
+}
+
+#[test]
+fn a_lo_job_cut_in_n_counts_in_n() {
+    // Task 0 is cut twice, each time at its limit of 2. The two jobs of task 1
+    // wait meanwhile at server 1, four ticks long, and then run, the first one
+    // to its end. No tick is in another mode.
+    let table = "\
+tick\t1
+server\t0\tevent\t2\t9\t9\t0\t0
+server\t0\ttimed\t1\t9\t9\t9\t9
+task\t0\t1\t9\tLO\t2\t5\t7
+task\t1\t1\t8\tHI\t2\t3\t4
+";
+    let expected = "\
+server\t0\t4\t0\t0
+server\t1\t2\t0\t4
+task\t0\t0\t2\t0\t0
+task\t1\t1\t0\t0\t1
+mode\tN\t6
+mode\tD1\t0
+mode\tD2\t0
+";
+    assert_eq!(page(table, "R0 R0 R1 R1 T0 T0 T0 T0 T0 T1"), expected);
 }
 
 #[test]
@@ -266,19 +306,22 @@ fn the_cutting_into_reads_does_not_show() {
     let mut events = lines("R2 T0 T1 T0 x T0 R9 T2 T0 R2 R99999999999 R00000000002 T0 T0");
     events += &format!("R\t2{}\n", "0".repeat(40));
     events += &format!("T\t0{}\n", "\t0".repeat(40));
-    events += &lines("R0 T0 T1 T0 T0 T0");
+    events += &lines("R0 T0 T1 T0 T0 T0 R0 T0 T0 T0");
     let fresh = || Run::fresh(text::read(EXAMPLE.as_bytes()).unwrap());
     let whole = page_of(&mut fresh(), events.as_bytes());
+    // Server 1 has five empty ticks, server 2 runs task 2, server 0 runs task 0
+    // to its end. Both jobs of task 2 run twice and are cut in N, and server 2
+    // has an empty tick. Task 0 runs once more, in N, in D1 and in D2.
     let expected = "\
-server\t0\t1\t0\t0
-server\t1\t7\t7\t0
-server\t2\t3\t0\t5
-task\t0\t1\t0\t0\t0
+server\t0\t2\t0\t0
+server\t1\t7\t5\t0
+server\t2\t5\t1\t5
+task\t0\t1\t0\t0\t1
 task\t1\t0\t0\t0\t0
-task\t2\t0\t1\t0\t1
-mode\tN\t8
-mode\tD1\t3
-mode\tD2\t0
+task\t2\t0\t2\t0\t0
+mode\tN\t12
+mode\tD1\t1
+mode\tD2\t1
 ";
     assert_eq!(whole, expected);
     for capacity in 1..40 {

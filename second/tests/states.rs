@@ -62,6 +62,47 @@ queue\t0\t0
 }
 
 #[test]
+fn jobs_at_their_limits() {
+    let state = |head: &str, queues: [&str; 3]| {
+        let [one, two, three] = queues;
+        let budgets = "budget\t2\t7\nbudget\t1\t7\nbudget\t4\t7\n";
+        format!("state\t{head}\n{budgets}queue\t{one}\nqueue\t{two}\nqueue\t{three}\n")
+    };
+    let next = |head: &str, queues: [&str; 3]| {
+        let charged = "budget\t2\t8\nbudget\t2\t8\nbudget\t4\t8\n";
+        let after = state(head, queues);
+        let (before, rest) = after.split_once("budget").unwrap();
+        format!("{before}{charged}{}", &rest[rest.find("queue").unwrap()..])
+    };
+    // The LO job is cut in N, and task 1 runs. Mark 1 leaves the same state.
+    let lo_in_n = state("0\t7\t4\t1\t2", ["0\t0", "1\t1", "2\t2"]);
+    let after = next("0\t8\t4\t1\t1", ["0\t0", "1\t2", "1\t0"]);
+    let cut = format!("tick\t7\t0\t2\t1\t1\t2\t2\t0\n{after}");
+    let done = format!("tick\t7\t0\t2\t1\t1\t1\t2\t0\n{after}");
+    assert_eq!(answer(TABLE, &lo_in_n, "tick\t0"), cut);
+    assert_eq!(answer(TABLE, &lo_in_n, "tick\t1"), done);
+    // The MI job in N rises to D1 and runs on.
+    let mi_in_n = state("0\t7\t4\t1\t1", ["0\t0", "1\t3", "1\t1"]);
+    let after = next("1\t8\t4\t1\t1", ["0\t0", "1\t4", "1\t1"]);
+    let risen = format!("tick\t7\t1\t2\t1\t1\t0\t0\t0\n{after}");
+    assert_eq!(answer(TABLE, &mi_in_n, "tick\t0"), risen);
+    // In D1 it is cut, and task 0 runs.
+    let mi_in_d1 = state("1\t7\t4\t1\t1", ["1\t0", "1\t4", "1\t0"]);
+    let after = next("1\t8\t4\t1\t0", ["1\t1", "0\t0", "1\t0"]);
+    let cut = format!("tick\t7\t1\t2\t1\t0\t2\t1\t0\n{after}");
+    assert_eq!(answer(TABLE, &mi_in_d1, "tick\t0"), cut);
+    // With a limit of 3 in D1 too it rises and is cut in one tick.
+    let table = TABLE.replace("\t40\t1\t3\t4\t4", "\t40\t1\t3\t3\t4");
+    let mi_in_n = state("0\t7\t4\t1\t1", ["1\t0", "1\t3", "1\t0"]);
+    assert_eq!(answer(&table, &mi_in_n, "tick\t0"), cut);
+    // The HI job in D2 is cut, and the next one runs.
+    let hi_in_d2 = state("2\t7\t4\t1\t0", ["2\t3", "0\t0", "0\t0"]);
+    let after = next("2\t8\t4\t1\t0", ["1\t1", "0\t0", "0\t0"]);
+    let cut = format!("tick\t7\t2\t2\t1\t0\t2\t0\t0\n{after}");
+    assert_eq!(answer(TABLE, &hi_in_d2, "tick\t0"), cut);
+}
+
+#[test]
 fn a_release_taken() {
     let next =
         STATE.replace("state\t1\t7\t4", "state\t1\t7\t5").replace("queue\t0\t0", "queue\t1\t0");

@@ -14,6 +14,20 @@ pub const MAX_FIELD: u64 = u32::MAX as u64;
 const ELEVEN_DIGITS: u64 = 99_999_999_999;
 pub const LO: u64 = 0;
 pub const D2: usize = 2;
+/// Every mode with every level of which a job may wait in it. Those of which a
+/// job may raise the mode to D2 are there twice.
+const LEVELS_IN_MODES: [(usize, &str); 10] = [
+    (0, "LO"),
+    (0, "MI"),
+    (0, "HI"),
+    (0, "HI"),
+    (1, "LO"),
+    (1, "MI"),
+    (1, "HI"),
+    (1, "HI"),
+    (D2, "MI"),
+    (D2, "HI"),
+];
 
 /// A task row, its limits in ticks.
 #[derive(Clone)]
@@ -110,31 +124,55 @@ impl Block {
         block
     }
 
-    /// A sound block whose last-run job has reached its limit in N or D1, with
-    /// other jobs waiting or alone, and a tick with mark 0.
+    /// A sound block whose last-run job, of any level, has reached its limit in
+    /// any mode, with other jobs waiting, with LO jobs only, or alone, and a tick
+    /// with mark 0. Its limits are often equal, so that it is judged more than
+    /// once.
     pub fn at_limit(mut table: Table, random: &mut Random) -> Block {
+        for task in &mut table.tasks {
+            if random.chance(40) {
+                task.level = "LO";
+            }
+        }
         let row = random.below(table.tasks.len());
-        if random.chance(60) {
-            table.tasks[row].time = [table.tasks[row].time[0]; 3];
+        let (mode, level) = random.pick(&LEVELS_IN_MODES);
+        table.tasks[row].level = level;
+        let time = table.tasks[row].time[0];
+        match random.below(10) {
+            0..=3 => table.tasks[row].time = [time; 3],
+            4 | 5 => table.tasks[row].time = [time, time, time + table.tick],
+            6 => table.tasks[row].time = [time, time + table.tick, time + table.tick],
+            _ => {}
         }
         let mut block = Block::sound(&table, "sound-at-limit", random);
-        block.mode = random.below(2);
+        block.mode = mode;
         block.last = None;
         block.draw_state(random);
-        if random.chance(40) {
-            block.queues.fill(Queue { waiting: 0, run: 0 });
-        }
         if let Some(last) = block.last {
             block.queues[last as usize].run = 0;
         }
+        match random.below(10) {
+            0..=2 => block.queues.fill(Queue { waiting: 0, run: 0 }),
+            3..=5 => block.leave_lo_jobs(random),
+            _ => {}
+        }
         let limit = block.tasks[row].limit[block.mode];
-        let waiting = random.pick(&[1, 1, 2, MAX_WAITING]);
+        let waiting = random.pick(&[1, 1, 1, 1, 2, MAX_WAITING]);
         block.queues[row] = Queue { waiting, run: limit };
         block.last = Some(row as u64);
         block.ticks = block.ticks.clamp(1, MAX_COUNT - 1);
         block.accepted = block.accepted.max(block.jobs());
         block.operation = Operation::Tick(0);
         block
+    }
+
+    /// Jobs of LO tasks wait and no others; in D2 none.
+    fn leave_lo_jobs(&mut self, random: &mut Random) {
+        let mode = self.mode;
+        for (task, queue) in self.tasks.iter().zip(&mut self.queues) {
+            let busy = if task.level == LO { 70 } else { 0 };
+            *queue = draw_queue(task, mode, busy, random);
+        }
     }
 
     fn draw_state(&mut self, random: &mut Random) {

@@ -34,7 +34,12 @@ impl Case {
             };
         }
         let (good, name) = match random.below(100) {
-            0..=35 => (table::small(random), "good-small".to_string()),
+            0..=27 => (table::small(random), "good-small".to_string()),
+            28..=35 => {
+                let good = table::serving(random);
+                let events = events::serving_events(good.tasks.len(), random);
+                return Case::of("good-serving", &good, events);
+            }
             36..=39 => (table::middle(random), "good-middle".to_string()),
             40..=50 => {
                 let (table, bound) = table::at_bound(random);
@@ -46,27 +51,36 @@ impl Case {
             }
         };
         let events = events::events(good.tasks.len(), random);
-        Case { name, table: text_of(&good.lines()), events }
+        Case::of(&name, &good, events)
+    }
+
+    fn of(name: &str, good: &Table, events: Vec<u8>) -> Case {
+        Case { name: name.to_string(), table: text_of(&good.lines()), events }
     }
 
     fn long(random: &mut Random) -> Case {
+        if random.chance(25) {
+            let good = table::serving(random);
+            let events = events::long_events(true, good.tasks.len(), random);
+            return Case::of("good-long-serving", &good, events);
+        }
         let good = long_table(random);
-        let events = events::long_events(good.tasks.len(), random);
-        Case { name: "good-long".to_string(), table: text_of(&good.lines()), events }
+        let events = events::long_events(false, good.tasks.len(), random);
+        Case::of("good-long", &good, events)
     }
 
     /// A night in which jobs may well wait to the end for a server without time.
     fn longest(random: &mut Random) -> Case {
         let good = long_table(random);
         let events = events::longest_events(false, good.tasks.len(), random);
-        Case { name: "good-longest".to_string(), table: text_of(&good.lines()), events }
+        Case::of("good-longest", &good, events)
     }
 
     /// A night in which the modes come and go, and LO jobs are discarded often.
     fn longest_serving(random: &mut Random) -> Case {
         let good = table::serving(random);
         let events = events::longest_events(true, good.tasks.len(), random);
-        Case { name: "good-longest-serving".to_string(), table: text_of(&good.lines()), events }
+        Case::of("good-longest-serving", &good, events)
     }
 
     /// Writes the two files, `table` and `events`, into a folder that is there.
@@ -102,13 +116,16 @@ mod tests {
     fn a_long_night_in_twenty_has_300_kilobytes() {
         for number in 0..200 {
             let case = Case::make(3, LONG + number);
-            let name = match number % 40 {
+            let longest = match number % 40 {
                 0 => "good-longest-serving",
                 20 => "good-longest",
-                _ => "good-long",
+                _ => {
+                    assert!(["good-long", "good-long-serving"].contains(&case.name.as_str()));
+                    continue;
+                }
             };
-            assert_eq!(case.name, name);
-            assert!(name == "good-long" || case.events.len() >= 300 * 1024);
+            assert_eq!(case.name, longest);
+            assert!(case.events.len() >= 300 * 1024);
         }
     }
 

@@ -3,8 +3,10 @@
 use std::cmp::Ordering;
 use std::collections::BTreeMap;
 
-/// The counts that must not be 0.
-const WANTED: [&str; 25] = [
+use crate::judged::{self, Judged, LEVELS, MODES};
+
+/// The counts that must not be 0, beside those of step 1.
+const WANTED: [&str; 24] = [
     "table taken",
     "event no 1",
     "release ok",
@@ -22,11 +24,10 @@ const WANTED: [&str; 25] = [
     "left cut",
     "left none",
     "discards",
+    "rise taken back with discards",
     "rise to D1",
     "rise to D2 from N",
     "rise to D2 from D1",
-    "rise taken back",
-    "back to N",
     "no events",
     "verdict response",
     "verdict misses",
@@ -220,7 +221,10 @@ impl Coverage {
         if text.is_empty() {
             self.count("no events");
         }
+        let levels = levels_of(table);
         let mut mode_before = "N";
+        // The level of the job that the last taken tick ran, if it ran one.
+        let mut last: Option<usize> = None;
         for line in text.lines() {
             let fields: Vec<&str> = line.split('\t').collect();
             match fields.as_slice() {
@@ -234,9 +238,13 @@ impl Coverage {
                 ["R", _, "no", "7"] => self.count("release no 7"),
                 ["R", _, "no", "8"] => self.count("release no 8"),
                 ["T", "no", "9"] => self.count("tick no 9"),
-                ["T", _, mode, what, _, _, how, _, discarded] => {
+                ["T", _, mode, what, _, task, how, _, discarded] => {
                     self.tick(mode_before, mode, what, how, discarded);
+                    if let Some(level) = last {
+                        self.judged(level, mode_before, mode, how);
+                    }
                     mode_before = mode;
+                    last = task.parse().ok().and_then(|row: usize| levels.get(row).copied());
                 }
                 _ => self.count("other answers"),
             }
@@ -278,15 +286,25 @@ impl Coverage {
         });
         if discarded != "0" {
             self.count("discards");
+            // Only on entering D2 jobs are discarded.
+            if mode == "N" {
+                self.count("rise taken back with discards");
+            }
         }
         match (mode_before, mode) {
             ("N", "D1") => self.count("rise to D1"),
             ("N", "D2") => self.count("rise to D2 from N"),
             ("D1", "D2") => self.count("rise to D2 from D1"),
-            ("D1" | "D2", "N") => self.count("back to N"),
-            // A job is cut in D1 and D2 only.
-            ("N", "N") if how == "cut" => self.count("rise taken back"),
             _ => {}
+        }
+    }
+
+    /// Counts what step 1 did with the job run last, of this level.
+    fn judged(&mut self, level: usize, before: &str, mode: &str, how: &str) {
+        let place = |word: &str| MODES.iter().position(|mode| *mode == word);
+        let (Some(before), Some(mode)) = (place(before), place(mode)) else { return };
+        for name in judged::names(&Judged { level, before, mode, cut: how == "cut" }) {
+            self.count(&name);
         }
     }
 
@@ -415,7 +433,8 @@ impl Coverage {
                 wanted.push(format!("table no {number} at {field} of a {word} line"));
             }
         }
-        let others = [&CAUSES[..], &MADE[..], &WANTED[..], &PAGES[..]].concat();
+        let others =
+            [&CAUSES[..], &MADE[..], &WANTED[..], &judged::WANTED[..], &PAGES[..]].concat();
         wanted.extend(others.into_iter().map(String::from));
         if long {
             let seams = READ.counts.iter().chain(&WRITTEN.counts).chain(&BATCH.counts[..3]);
@@ -443,6 +462,15 @@ fn has_server(table: &[u8], kind: &str) -> bool {
         let mut fields = line.split(|&byte| byte == b'\t');
         fields.next() == Some(b"server") && fields.nth(1) == Some(kind.as_bytes())
     })
+}
+
+/// The levels of the tasks of a good table's text, as places in [`LEVELS`].
+fn levels_of(table: &[u8]) -> Vec<usize> {
+    lines_of(table)
+        .map(|line| line.split(|&byte| byte == b'\t').collect::<Vec<_>>())
+        .filter(|fields| fields[0] == b"task")
+        .filter_map(|fields| LEVELS.iter().position(|word| Some(&word.as_bytes()) == fields.get(4)))
+        .collect()
 }
 
 /// Why a line is 1 as a line. The lines before it are good.
@@ -610,6 +638,32 @@ mod tests {
             "table no 5 of server lines",
         ];
         assert_eq!(counted, expected);
+    }
+
+    #[test]
+    fn what_step_1_did_is_seen_by_level() {
+        let table = b"tick\t1\nserver\t0\ttimed\t1\t9\t9\t9\t9\n\
+            task\t0\t0\t3\tLO\t1\t1\t1\ntask\t0\t0\t2\tMI\t1\t1\t2\n\
+            task\t0\t0\t1\tHI\t1\t2\t3\n";
+        // The answers of R0 R1 R2 and four ticks with mark 0, one with mark 1.
+        let answers = b"R\t0\tok\nR\t1\tok\nR\t2\tok\n\
+            T\t0\tN\trun\t0\t0\t-\t-\t0\nT\t1\tN\trun\t0\t1\tcut\t0\t0\n\
+            T\t2\tD1\trun\t0\t2\tcut\t1\t0\nT\t3\tD1\trun\t0\t2\t-\t-\t0\n\
+            T\tno\t9\nT\t4\tD2\trun\t0\t2\t-\t-\t0\nT\t5\tN\tempty\t0\t-\tdone\t2\t0\n\
+            T\t6\tN\tempty\t0\t-\t-\t-\t0\n";
+        let mut coverage = Coverage::default();
+        coverage.night(table, answers);
+        let counted = |what: &str| coverage.counts.get(what).copied().unwrap_or(0);
+        let seen = [
+            "LO job cut in N",
+            "MI job risen from N and cut, tick in D1",
+            "N to D1 after a MI job",
+            "D1 to D2 after a HI job",
+            "fall to N from D2",
+        ];
+        for what in crate::judged::WANTED {
+            assert_eq!(counted(what), u64::from(seen.contains(&what)), "{what}");
+        }
     }
 
     #[test]

@@ -567,11 +567,16 @@ fn fault_name(fault: Fault, place: Place, how: &str) -> String {
 fn one_fault(random: &mut Random) -> (Vec<u8>, String) {
     let mut draft = Draft::new(table::rich(random));
     let last = random.pick(&LAST_NUMBERS);
-    let number = match random.below(40) {
+    let number = match random.below(42) {
         0..=8 => 1,
         9..=16 => 2,
         17..=20 => 3,
         21..=33 => last,
+        34 | 35 => {
+            let place = draft.any_server(random);
+            let name = draft.put(Fault { number: 2, field: 4 }, place, random);
+            return (text_of(&draft.lines), name);
+        }
         _ => {
             let name = draft.equal_priorities(random);
             return (text_of(&draft.lines), name);
@@ -684,13 +689,13 @@ fn wrong_text(random: &mut Random) -> (Vec<u8>, String) {
     let servers = draft.table.servers.len();
     let tasks = draft.table.tasks.len();
     let lines = &mut draft.lines;
-    let name = match random.below(35) {
+    let name = match random.below(38) {
         0 => return (Vec::new(), "1-text-empty".to_string()),
         1 => {
             let texts: [&[u8]; 5] = [b"\n", b"\t\n", b"\0", b"tick", b"tick\t1000"];
             return (random.pick(&texts).to_vec(), "1-text-tiny".to_string());
         }
-        2 | 3 => return unclosed(draft, random),
+        2 | 3 | 28..=30 => return unclosed(draft, random),
         4 => {
             lines.truncate(1);
             "1-tick-only"
@@ -788,7 +793,7 @@ fn wrong_text(random: &mut Random) -> (Vec<u8>, String) {
 fn unclosed(mut draft: Draft, random: &mut Random) -> (Vec<u8>, String) {
     let place = draft.any_place(random);
     let name = if random.chance(60) {
-        let number = draft.number_for(place, random);
+        let number = if random.chance(40) { 1 } else { draft.number_for(place, random) };
         format!("and-{}", draft.put_any(number, place, random))
     } else {
         "alone".to_string()

@@ -19,22 +19,33 @@ pub fn events(tasks: usize, random: &mut Random) -> Vec<u8> {
     let lines = random.within(50, 400);
     let odd = random.pick(&[0, 0, 1, 2, 5, 20]);
     let long_lines = random.chance(6);
-    lines_of(lines, odd, Habits { long_lines, calms: false }, tasks, random)
+    lines_of(lines, odd, Habits { long_lines, longest_calm: 0 }, tasks, random)
 }
 
-/// An event file that no program reads, answers or writes at once.
-pub fn long_events(tasks: usize, random: &mut Random) -> Vec<u8> {
+/// An event file for a table that serves every job, with calms in it.
+pub fn serving_events(tasks: usize, random: &mut Random) -> Vec<u8> {
+    let lines = random.within(150, 500);
+    let odd = random.pick(&[0, 0, 1, 2, 5]);
+    lines_of(lines, odd, Habits { long_lines: false, longest_calm: 60 }, tasks, random)
+}
+
+/// An event file that no program reads, answers or writes at once, with calms
+/// for a table that serves every job.
+pub fn long_events(serving: bool, tasks: usize, random: &mut Random) -> Vec<u8> {
     let lines = random.within(1_000, 20_000);
     let odd = random.pick(&[0, 2, 20, 60]);
     let long_lines = odd == 2 && random.chance(20);
-    lines_of(lines, odd, Habits { long_lines, calms: false }, tasks, random)
+    let longest_calm = if serving { 300 } else { 0 };
+    lines_of(lines, odd, Habits { long_lines, longest_calm }, tasks, random)
 }
 
-/// An event file of several hundred kilobytes, in lines of the usual lengths.
-pub fn longest_events(calms: bool, tasks: usize, random: &mut Random) -> Vec<u8> {
+/// An event file of several hundred kilobytes, in lines of the usual lengths,
+/// with calms for a table that serves every job.
+pub fn longest_events(serving: bool, tasks: usize, random: &mut Random) -> Vec<u8> {
     let lines = random.within(80_000, 120_000);
     let odd = random.pick(&[0, 2, 20]);
-    lines_of(lines, odd, Habits { long_lines: false, calms }, tasks, random)
+    let longest_calm = if serving { 1_200 } else { 0 };
+    lines_of(lines, odd, Habits { long_lines: false, longest_calm }, tasks, random)
 }
 
 /// What only some event files have.
@@ -42,8 +53,9 @@ pub fn longest_events(calms: bool, tasks: usize, random: &mut Random) -> Vec<u8>
 struct Habits {
     /// Odd lines of many bytes.
     long_lines: bool,
-    /// Long stretches without a release, in which the jobs are worked off.
-    calms: bool,
+    /// The most lines of a calm, a stretch without a release in which the jobs
+    /// are worked off; 0 for none.
+    longest_calm: u64,
 }
 
 /// An event file of so many lines, or some more.
@@ -64,9 +76,9 @@ fn lines_of(lines: u64, odd: u64, habits: Habits, tasks: usize, random: &mut Ran
             push_line(&mut text, &phase, tasks, habits.long_lines, random);
             written += 1;
         }
-        if habits.calms && random.chance(40) {
+        if habits.longest_calm > 0 && random.chance(40) {
             let calm = Phase { release: 0, mark: 60, odd, favourite: None };
-            for _ in 0..random.within(200, 1_200) {
+            for _ in 0..random.within(habits.longest_calm / 6, habits.longest_calm) {
                 push_line(&mut text, &calm, tasks, habits.long_lines, random);
                 written += 1;
             }

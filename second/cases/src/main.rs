@@ -7,6 +7,7 @@ mod compare;
 mod coverage;
 mod damage;
 mod events;
+mod judged;
 mod random;
 mod states;
 mod table;

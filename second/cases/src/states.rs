@@ -5,7 +5,8 @@ use std::fs;
 use std::path::{Path, PathBuf};
 use std::process::{Command, Output, Stdio};
 
-use crate::block::Block;
+use crate::block::{Block, Operation};
+use crate::judged::{self, Judged, LEVELS, MODES};
 use crate::random::Random;
 use crate::table;
 use crate::unsound;
@@ -13,8 +14,9 @@ use crate::unsound;
 /// Few files, so that few programs are started.
 const BLOCKS_IN_FILE: u64 = 200;
 
-/// The counts that must not be 0, beside one for each clause broken.
-const WANTED: [&str; 29] = [
+/// The counts that must not be 0, beside those of step 1 and one for each clause
+/// broken.
+const WANTED: [&str; 36] = [
     "fresh taken",
     "release taken",
     "tick taken",
@@ -41,9 +43,16 @@ const WANTED: [&str; 29] = [
     "tick in which a job left cut",
     "tick with discards",
     "tick with a rise",
-    "tick with a rise taken back",
-    "tick back in N",
+    "tick with a rise taken back with discards",
     "tick 3999999999",
+    "LO job at its limit in N",
+    "MI job at its limit in N",
+    "HI job at its limit in N",
+    "LO job at its limit in D1",
+    "MI job at its limit in D1",
+    "HI job at its limit in D1",
+    "MI job at its limit in D2",
+    "HI job at its limit in D2",
 ];
 
 pub struct Options {
@@ -97,8 +106,8 @@ fn make(seed: u64, number: u64) -> Made {
     let mut random = Random::for_case(seed, number);
     let random = &mut random;
     let mut block = match random.below(20) {
-        0..=4 => Block::sound(&table::small(random), "sound-small", random),
-        5 | 6 => Block::at_limit(table::small(random), random),
+        0..=3 => Block::sound(&table::small(random), "sound-small", random),
+        4..=6 => Block::at_limit(table::small(random), random),
         7 => Block::sound(&table::middle(random), "sound-middle", random),
         8 | 9 => {
             let (table, bound) = table::at_bound(random);
@@ -292,6 +301,7 @@ impl Totals {
         {
             self.count(["tick idle", "tick empty", "tick run"][(*what as usize).min(2)]);
             self.see_modes(block.mode, *mode as usize, *how, *discarded);
+            self.see_job(block, *mode as usize, *how == 2);
             if *tick == 3_999_999_999 {
                 self.count("tick 3999999999");
             }
@@ -310,12 +320,24 @@ impl Totals {
         if before < mode {
             self.count("tick with a rise");
         }
-        if mode < before {
-            self.count("tick back in N");
+        // Only on entering D2 jobs are discarded.
+        if discarded > 0 && mode == 0 {
+            self.count("tick with a rise taken back with discards");
         }
-        // In N no job is cut and none discarded.
-        if before == 0 && mode == 0 && (how == 2 || discarded > 0) {
-            self.count("tick with a rise taken back");
+    }
+
+    /// Counts what step 1 found and did with the job run last, if there is one.
+    fn see_job(&mut self, block: &Block, mode: usize, cut: bool) {
+        let Some(row) = block.last.map(|row| row as usize) else { return };
+        let (Some(task), Some(queue)) = (block.tasks.get(row), block.queues.get(row)) else {
+            return;
+        };
+        let (level, before) = (task.level as usize, block.mode);
+        if matches!(block.operation, Operation::Tick(0)) && queue.run == task.limit[before] {
+            self.count(&format!("{} job at its limit in {}", LEVELS[level], MODES[before]));
+        }
+        for name in judged::names(&Judged { level, before, mode: mode.min(2), cut }) {
+            self.count(&name);
         }
     }
 
@@ -323,8 +345,8 @@ impl Totals {
     fn print(&self) -> bool {
         println!("seen in the answers:");
         let clauses = unsound::names().map(broken);
-        let wanted: Vec<String> =
-            WANTED.iter().map(|what| what.to_string()).chain(clauses).collect();
+        let others = WANTED.iter().chain(&judged::WANTED).map(|what| what.to_string());
+        let wanted: Vec<String> = others.chain(clauses).collect();
         let mut complete = true;
         for what in &wanted {
             let count = self.seen.get(what).copied().unwrap_or(0);

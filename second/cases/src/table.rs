@@ -163,8 +163,8 @@ pub fn rich(random: &mut Random) -> Table {
 
 /// A table that serves every job in the end, in each mode, as its servers share
 /// all ticks evenly. So the box comes back to N when no job is released, and
-/// rises again. Two tasks at least are LO, and the highest is HI, so that LO jobs
-/// wait while it overruns.
+/// rises again. Two tasks at least are LO and one is MI, and the highest is HI, so
+/// that LO jobs wait while it overruns and takes the mode to D2.
 pub fn serving(random: &mut Random) -> Table {
     let shape = Shape {
         servers: random.within(2, 5) as usize,
@@ -187,7 +187,7 @@ pub fn serving(random: &mut Random) -> Table {
     }
     let mut rows: Vec<usize> = (0..table.tasks.len()).collect();
     random.shuffle(&mut rows);
-    for (&row, level) in rows.iter().zip(["HI", "LO", "LO"]) {
+    for (&row, level) in rows.iter().zip(["HI", "LO", "LO", "MI"]) {
         table.tasks[row].level = level;
     }
     give_task_priority(&mut table, rows[0], MAX_PRIORITY);
@@ -233,7 +233,8 @@ fn draw(shape: &Shape, random: &mut Random) -> Table {
             home,
             degraded,
             priority,
-            level: random.pick(&["LO", "MI", "HI"]),
+            // Only a HI job takes the mode to D2.
+            level: random.pick(&["LO", "LO", "MI", "MI", "HI", "HI", "HI"]),
             time: draw_times(shape.longest_limit, tick, random),
         });
     }

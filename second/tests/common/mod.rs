@@ -91,7 +91,8 @@ pub fn random_table(random: &mut Random) -> Table {
             home: homes[random.within(0, homes.len() as u32 - 1) as usize],
             degraded,
             priority: 1 + (row * 5 + 2) % 7,
-            level: [Level::Lo, Level::Mi, Level::Hi][random.within(0, 2) as usize],
+            level: [Level::Lo, Level::Lo, Level::Mi, Level::Hi, Level::Hi]
+                [random.within(0, 4) as usize],
             limit: [n, d1, d2],
         });
     }
