@@ -3,20 +3,18 @@
 use mathlib.Core.Path.{_≡_, refl, ap, sym, _∙_}
 use mathlib.Core.Bool.{Bool, true, false}
 use mathlib.Core.Logic.{_⊎_, inl, inr, _↔_}
-use Prim.Native.Nat.{ℕ, suc, _+_, _<_}
+use Prim.Native.Nat.{ℕ, zero, suc, _+_, _<_}
 use native.Mathlib.Omega.{arith}
 use lib.Dec.{eqb}
-use borrow.Author.Tests.{eqb-true, eqb-false, eq-eqb, ne-eqb, ltb-true, lt-ltb}
+use borrow.Author.Tests.{eqb-true, eqb-false, eq-eqb, ne-eqb, ltb-true, ltb-false, lt-ltb}
 use Rattle.laws.specs.declared.Found.the-variants.{At, Nothing}
 use Rattle.laws.specs.Choice.{if_then_else_}
-use Rattle.laws.proofs.Choice.{if-ind, true-or-false, and-left, and-right, and-true}
-use Rattle.laws.proofs.Rows.{any-at, any-found}
+use Rattle.laws.proofs.Choice.{clash, if-ind, true-or-false, and-left, and-right, and-true}
+use Rattle.laws.specs.Rows.{anyBelow}
+use Rattle.laws.proofs.Rows.{any-at, any-none, any-found}
 use Rattle.laws.proofs.Highest.{highest-exactly, none-exactly}
 use Rattle.table.specs.declared.Kind.the-variants.{Timed}
-use Rattle.table.specs.declared.Level.{Level}
-use Rattle.table.specs.declared.Level.the-variants.{LO, MI, HI}
 use Rattle.table.specs.declared.Mode.{Mode}
-use Rattle.table.specs.declared.Mode.the-variants.{N, D1, D2}
 use Rattle.table.specs.declared.Table.{Table}
 use Rattle.table.specs.Rows.{serverAt, taskAt, periodAt, priorityAt, limitAt, taskPriorityAt}
 use Rattle.table.specs.Rows.{isTimed}
@@ -32,8 +30,9 @@ use Rattle.run.specs.declared.Left.{Left}
 use Rattle.run.specs.declared.Left.the-variants.{Nobody, Cut}
 use Rattle.run.specs.State.{usedAt, elapsedAt, waitingAt, runsAt, owner, taskWaits, waitsFor, waits}
 use Rattle.run.specs.Answers.{charged}
-use Rattle.run.specs.Tick.{atLimit, onward, judge, judged, step1, drops, discards, step2, step4}
+use Rattle.run.specs.Tick.{height, countsAs, raises, raised, judge, judged, step1, drops, discards, step2, step4}
 use Rattle.run.specs.Tick.{settle, able, highestAble, highestTask, choose, advance, tickTaken}
+use Rattle.run.proofs.Judge.{height-at-most, Enough, enough-raised}
 use Rattle.run.proofs.Shape.{Shaped, RunShaped, alike-shaped, step1-alike}
 use Rattle.run.proofs.Sound.{StateSound}
 use Rattle.run.proofs.Steps.{step1-waiting, drops-exactly, runs-stay, step2-runs, step3-runs}
@@ -44,8 +43,8 @@ use Rattle.run.proofs.Tick.{charged-le, one-charged, highest-charged, charged-h
 use Rattle.run.proofs.Tick.{timed-able, waiting-able, able-room, able-cause}
 use Rattle.run.proofs.Slips.{used-anew, used-stays, none-waits-normal, waits-as-risen, next-starts}
 use Rattle.run.proofs.Count.{tick-jobs}
-use Rattle.promises.specs.Condition2.{RunSized, OneTick, table, old, OnTheWay, Judging, stays}
-use Rattle.promises.specs.Condition2.{rises, rises-on, low-cut, is-cut, Ends, Step1}
+use Rattle.promises.specs.Condition2.{RunSized, OneTick, table, old, new, OnTheWay, Judging, stays}
+use Rattle.promises.specs.Condition2.{rises, is-cut, Ends, Step1}
 use Rattle.promises.specs.Condition2.{Discarded, Step2, Step3, Step4, Waits, Able, Highest}
 use Rattle.promises.specs.Condition2.{Step5, HighestTask, Step6, Step7, Says, ByTheRules}
 
@@ -67,42 +66,28 @@ shaped-held h =
       runs = h .state .runs;
     }
 
--- Step 1. What is judged goes as the page says, from each mode.
+-- Step 1. What is judged goes as the page says, from any mode.
 abbrev pub leftBy : ℕ → Judged → Left
 leftBy k j = if j .cut then Cut k else Nobody
 
-judging-D2 : (n : ℕ) (t : Table) (k c : ℕ) →
-    Judging t k c D2 (judge (suc n) (taskAt t k) c D2 .mode) (leftBy k (judge (suc n) (taskAt t k) c D2))
+judging : (n : ℕ) (t : Table) (k c : ℕ) (m : Mode) → Enough n m →
+    Judging t k c m (judge n (taskAt t k) c m .mode) (leftBy k (judge n (taskAt t k) c m))
 unfolding judge
-judging-D2 n t k c =
-    if-ind (λ (j : Judged). Judging t k c D2 (j .mode) (leftBy k j)) (eqb c (limitAt t D2 k))
-    (λ e. is-cut (eqb-true c (limitAt t D2 k) e))
-    (λ e. stays D2 (eqb-false c (limitAt t D2 k) e))
-
-judging-D1 : (n : ℕ) (t : Table) (k c : ℕ) →
-    Judging t k c D1 (judge (suc (suc n)) (taskAt t k) c D1 .mode) (leftBy k (judge (suc (suc n)) (taskAt t k) c D1))
-unfolding judge
-judging-D1 n t k c =
-    if-ind (λ (j : Judged). Judging t k c D1 (j .mode) (leftBy k j)) (eqb c (limitAt t D1 k))
-    (λ e. at (eqb-true c (limitAt t D1 k) e) (taskAt t k .level) refl)
-    (λ e. stays D1 (eqb-false c (limitAt t D1 k) e))
+judging zero t k c m h = absurd (omega (arith, height-at-most (countsAs m)))
+judging (suc n) t k c m h =
+    if-ind so (eqb c (limitAt t m k))
+    (λ e.
+    if-ind so (raises m (taskAt t k .level))
+    (λ u.
+    let above = ltb-true (height (countsAs m)) (height (taskAt t k .level)) u in
+    rises m _ _ (eqb-true c (limitAt t m k) e) above
+    (judging n t k c (raised m) (enough-raised n m (taskAt t k .level) above h)))
+    (λ u. is-cut m (eqb-true c (limitAt t m k) e)
+    (λ above. clash (raises m (taskAt t k .level)) (lt-ltb _ _ above) u)))
+    (λ e. stays m (eqb-false c (limitAt t m k) e))
   where
-    at : c ≡ limitAt t D1 k → (l : Level) → taskAt t k .level ≡ l →
-        Judging t k c D1 (onward (judge (suc n) (taskAt t k) c) D1 (atLimit D1 l) .mode)
-        (leftBy k (onward (judge (suc n) (taskAt t k) c) D1 (atLimit D1 l)))
-    at e LO q = low-cut e q
-    at e MI q = rises-on _ _ e (λ z. let y : _≡_ {A = ℕ} 0 1 = cc in omega arith) (judging-D2 n t k c)
-    at e HI q = rises-on _ _ e (λ z. let y : _≡_ {A = ℕ} 0 1 = cc in omega arith) (judging-D2 n t k c)
-
-judging : (t : Table) (k c : ℕ) (m : Mode) →
-    Judging t k c m (judge 3 (taskAt t k) c m .mode) (leftBy k (judge 3 (taskAt t k) c m))
-unfolding judge
-judging t k c N =
-    if-ind (λ (j : Judged). Judging t k c N (j .mode) (leftBy k j)) (eqb c (limitAt t N k))
-    (λ e. rises _ _ (eqb-true c (limitAt t N k) e) (judging-D1 0 t k c))
-    (λ e. stays N (eqb-false c (limitAt t N k) e))
-judging t k c D1 = judging-D1 1 t k c
-judging t k c D2 = judging-D2 2 t k c
+    so : Judged → Type 0
+    so j = Judging t k c m (j .mode) (leftBy k j)
 
 ends : (t : Table) (s : State) (mark : Bool) (l : Last) →
     Ends t s mark l (step1 t s mark l .state .mode) (step1 t s mark l .left)
@@ -111,13 +96,25 @@ ends t s mark NoJob = (refl, refl)
 ends t s true (Job k) = (refl, refl)
 ends t s false (Job k) =
     let j = judge 3 (taskAt t k) (runsAt s k) (s .mode) in
-    go (j .cut) (j .mode) (judging t k (runsAt s k) (s .mode))
+    go (j .cut) (j .mode) (judging 3 t k (runsAt s k) (s .mode) (omega arith))
   where
     go : (b : Bool) (m : Mode) → Judging t k (runsAt s k) (s .mode) m (if b then Cut k else Nobody) →
         Judging t k (runsAt s k) (s .mode) (judged s k (record { mode = m; cut = b }) .state .mode)
         (judged s k (record { mode = m; cut = b }) .left)
     go true m p = p
     go false m p = p
+
+-- A job waits after a tick, or none does.
+pub waits-or-none : (x : OneTick) →
+    ((k : ℕ) × (k < table x .ntasks) × (0 < waitingAt (new x) k)) ⊎
+    ((k : ℕ) → k < table x .ntasks → waitingAt (new x) k ≡ 0)
+waits-or-none x =
+    let some = taskWaits (new x) in
+    let n = table x .ntasks in
+    elim (true-or-false (anyBelow n some)) [
+      | inl e ↦ let f = any-found some n e in inl (f .0, f .1, ltb-true 0 (waitingAt (new x) (f .0)) (f .2))
+      | inr e ↦ inr (λ k l. omega (arith, ltb-false 0 (waitingAt (new x) k) (any-none some n k e l)))
+    ]
 
 -- The tick that is taken with a mark, and what its steps leave on the way.
 abbrev pub made : Table → State → Bool → OneTick

@@ -3,11 +3,9 @@
 use mathlib.Core.Path.{_≡_, refl, ap, ap₂, subst}
 use mathlib.Core.Bool.{false}
 use mathlib.Core.Logic.{inl, inr}
-use Prim.Native.Nat.{ℕ, _<_}
+use Prim.Native.Nat.{ℕ}
 use native.Mathlib.Omega.{arith}
 use native.Mathlib.Nat.{mul-le-mul-right}
-use lib.ListN.{length}
-use borrow.Author.Tests.{ltb-true}
 use Rattle.laws.proofs.Choice.{clash, true-or-false}
 use Rattle.laws.proofs.RoundUp.{up-le, le-up}
 use Rattle.table.specs.Rows.{taskAt, isLow}
@@ -31,7 +29,7 @@ use Rattle.run.proofs.Sound.{sound-table, sound-state}
 use Rattle.run.proofs.Steps.{one-past}
 use Rattle.run.proofs.Tick.{one-same}
 use Rattle.run.proofs.Count.{jobs-balance, jobs-balance-kept}
-use Rattle.run.proofs.Kept.{waiting-released, after-keeps}
+use Rattle.run.proofs.Kept.{waiting-taken, after-keeps}
 use Rattle.run.proofs.Refused.{release-13, tick-13, start-run}
 use Rattle.promises.specs.Condition2.{StartsFresh, JobAdded, EveryRelease, ByTheRules}
 use Rattle.promises.specs.Condition2.{EveryTick, StaysSound}
@@ -67,20 +65,11 @@ every-release r k z h =
     absurd (omega arith))
     (λ y e. subst (JobAdded r k) (ap (λ (a : Answered). a .run) e) (added y))
   where
-    long : ReleaseTaken r k → k < length (r .state .waiting)
-    long y =
-        omega (
-          arith,
-          ltb-true k (r .table .ntasks) (y .task),
-          table-rules (r .table) (h .table) (sound-table r (y .sound)) .tasks-high,
-          h .waiting,
-        )
-
     added : ReleaseTaken r k → JobAdded r k (releaseTaken r k .run)
     added y =
         record {
-          waiting = omega (arith, waiting-released (r .state) k k (long y), one-same k);
-          others = λ j n. omega (arith, waiting-released (r .state) k j (long y), one-past k j n);
+          waiting = omega (arith, waiting-taken r k k (held-shaped r h) y, one-same k);
+          others = λ j n. omega (arith, waiting-taken r k j (held-shaped r h) y, one-past k j n);
           runs = refl;
           used = refl;
           elapsed = refl;

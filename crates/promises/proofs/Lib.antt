@@ -18,6 +18,7 @@ pub mod ByTheRules
 pub mod Condition2
 pub mod FromTheText
 pub mod RulesSettle
+pub mod AlarmMode
 pub mod InUse
 pub mod Dummies
 pub mod Reworded

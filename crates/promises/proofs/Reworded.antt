@@ -1,14 +1,16 @@
--- Condition 2 with one of its words changed is false, each time by a run that is computed. Assumes
--- nothing.
-use mathlib.Core.Path.{_≡_, refl}
+-- Condition 2, and what request No. 4 comes to, with one of its words changed is false, each time by
+-- a run that is computed. Assumes nothing.
+use mathlib.Core.Path.{_≡_, refl, ap}
 use mathlib.Core.Bool.{Bool, true, false}
 use mathlib.Core.List.{List, [], _∷_}
+use mathlib.Core.Logic.{_⊎_, inl, inr}
 use Prim.Native.Nat.{ℕ, _+_, _≤_, _<_}
 use native.Mathlib.Omega.{arith}
 use Rattle.laws.specs.Rows.{sumBelow}
 use Rattle.table.specs.declared.Kind.the-variants.{Timed}
 use Rattle.table.specs.declared.Mode.{Mode}
-use Rattle.table.specs.declared.Mode.the-variants.{N}
+use Rattle.table.specs.declared.Level.the-variants.{MI}
+use Rattle.table.specs.declared.Mode.the-variants.{N, D1}
 use Rattle.table.specs.declared.Table.{Table}
 use Rattle.table.specs.Inner.{Sized}
 use Rattle.table.specs.Rows.{taskAt, limitAt, capacityAt}
@@ -18,10 +20,11 @@ use Rattle.verdict.specs.Verdict.{interference, verdictOf}
 use Rattle.run.specs.declared.Last.the-variants.{Job}
 use Rattle.run.specs.declared.Run.{Run}
 use Rattle.run.specs.declared.Turn.the-variants.{Run as Ran}
-use Rattle.run.specs.declared.Left.the-variants.{Nobody}
+use Rattle.run.specs.declared.Left.the-variants.{Nobody, Done, Cut}
 use Rattle.run.specs.declared.Event.{Event}
 use Rattle.run.specs.declared.Event.the-variants.{Release, Tick}
 use Rattle.run.specs.declared.TickAnswer.{TickAnswer}
+use Rattle.run.specs.declared.Answer.{Answer}
 use Rattle.run.specs.declared.Answer.the-variants.{Ticked}
 use Rattle.run.specs.State.{waitingAt, runsAt}
 use Rattle.run.specs.Release.{freshRun}
@@ -30,14 +33,15 @@ use Rattle.run.specs.Events.{after, answers}
 use Rattle.run.specs.Count.{overAll, releasedIn, finishedIn, cutIn}
 use Rattle.run.specs.Example.{example}
 use Rattle.run.proofs.Shape.{fresh-run-shaped}
-use Rattle.run.proofs.Cases.{tight}
+use Rattle.run.proofs.Cases.{tight, levels}
 use Rattle.promises.specs.Example.{two}
-use Rattle.promises.specs.Condition2.{RunSized}
+use Rattle.promises.specs.Condition2.{RunSized, LiesAbove}
+use Rattle.promises.specs.AlarmMode.{modeHeight, leftAs}
 use Rattle.promises.proofs.Opened.{opened}
 use Rattle.promises.proofs.FromTheText.{reached-held}
 
 unfoldable computed : Unit {0}
-unfolding opened overAll tight
+unfolding opened overAll tight levels
 computed = tt
 
 -- every tick that is taken, on a run that code holds
@@ -98,3 +102,73 @@ unfolding computed
 needs-at-most f =
     let n : 4 < 4 = f (two Timed 4 3 4 1) 1 N 4 refl (omega arith) (omega arith) refl in
     omega (arith, n)
+
+-- Request No. 4, on a table with a task of each level.
+levels-sized : Sized levels
+unfolding computed
+levels-sized = record { servers = refl; tasks = refl }
+
+-- "only if its level lies above the present one": by the rule before it a job at its limit in N, and
+-- not in D1, would stay. The LO job is cut.
+pub needs-the-level :
+    OfTicks
+    (λ r mark a.
+    (k : ℕ) → mark ≡ false → r .state .last ≡ Job k → r .state .mode ≡ N →
+    runsAt (r .state) k ≡ limitAt (r .table) N k → (runsAt (r .state) k ≡ limitAt (r .table) D1 k → ⊥) →
+    a .left ≡ Nobody) →
+    ⊥
+unfolding computed
+needs-the-level f =
+    let es = Release 2 ∷ Tick false ∷ [] in
+    let n =
+    f (after (freshRun levels) es) false _
+    (reached-held (freshRun levels) es (fresh-run-shaped levels levels-sized))
+    refl 2 refl refl refl refl (λ e. let one : _≡_ {A = ℕ} 1 2 = e in omega (arith, one)) in
+    let z : _≡_ {A = ℕ} 0 1 = cc in
+    omega arith
+
+-- "a LO job never changes the mode": a MI job does. It raises N to D1.
+pub needs-a-low-job :
+    OfTicks
+    (λ r mark a.
+    (k : ℕ) → r .state .last ≡ Job k → taskAt (r .table) k .level ≡ MI →
+    (a .mode ≡ r .state .mode) ⊎ (a .mode ≡ N)) →
+    ⊥
+unfolding computed
+needs-a-low-job f =
+    let es = Release 1 ∷ Release 2 ∷ Tick false ∷ [] in
+    let n : (D1 ≡ N) ⊎ (D1 ≡ N) =
+    f (after (freshRun levels) es) false _
+    (reached-held (freshRun levels) es (fresh-run-shaped levels levels-sized))
+    refl 1 refl refl in
+    elim n [ inl e ↦ stays e | inr e ↦ stays e ]
+  where
+    stays : D1 ≡ N → ⊥
+    stays e = let z : _≡_ {A = ℕ} 1 0 = ap modeHeight e in omega (arith, z)
+
+-- "costs one cut": of a job whose level lies above the mode it costs none. The HI job at its limit
+-- in N stays.
+pub needs-a-level-not-above :
+    ((r : Run) (k : ℕ) (a : Answer) → r .state .last ≡ Job k →
+    runsAt (r .state) k ≡ limitAt (r .table) (r .state .mode) k → LiesAbove (r .table) k (r .state .mode) →
+    tickOf r false .answer ≡ a → a ≡ leftAs (Cut k) a) →
+    ⊥
+unfolding computed
+needs-a-level-not-above f =
+    let es = Release 0 ∷ Tick false ∷ [] in
+    let n = f (after (freshRun levels) es) 0 _ refl refl (omega arith) refl in
+    let z : _≡_ {A = ℕ} 0 1 = ap (λ (b : Answer). cutIn (b ∷ [])) n in
+    omega (arith, z)
+
+-- and it is told as cut, not as finished
+pub needs-cut-told :
+    ((r : Run) (k : ℕ) (a : Answer) → r .state .last ≡ Job k →
+    runsAt (r .state) k ≡ limitAt (r .table) (r .state .mode) k → (LiesAbove (r .table) k (r .state .mode) → ⊥) →
+    tickOf r false .answer ≡ a → a ≡ leftAs (Done k) a) →
+    ⊥
+unfolding computed
+needs-cut-told f =
+    let es = Release 2 ∷ Tick false ∷ [] in
+    let n = f (after (freshRun levels) es) 2 _ refl refl (λ u. let low : 0 < 0 = u in omega (arith, low)) refl in
+    let z : _≡_ {A = ℕ} 1 0 = ap (λ (b : Answer). cutIn (b ∷ [])) n in
+    omega (arith, z)

@@ -3,18 +3,15 @@
 use mathlib.Core.Path.{_≡_, refl, ap, ap₂, sym, _∙_}
 use mathlib.Core.Bool.{Bool, true, false}
 use mathlib.Core.Logic.{_⊎_, inl, inr}
-use Prim.Native.Nat.{ℕ, suc, _+_, _<_}
+use Prim.Native.Nat.{ℕ, zero, suc, _+_, _<_}
 use native.Mathlib.Omega.{arith}
 use lib.ListN.{getD}
 use lib.Seq.{getD-take}
-use borrow.Author.Tests.{eq-eqb, ne-eqb, ltb-true, ltb-false}
-use Rattle.laws.specs.Rows.{anyBelow, sumBelow}
-use Rattle.laws.proofs.Choice.{clash, true-or-false}
-use Rattle.laws.proofs.Rows.{any-none, any-found, sum-cong}
-use Rattle.table.specs.declared.Level.{Level}
-use Rattle.table.specs.declared.Level.the-variants.{LO, MI, HI}
+use borrow.Author.Tests.{eq-eqb, ne-eqb, lt-ltb, ltb-true}
+use Rattle.laws.specs.Rows.{sumBelow}
+use Rattle.laws.proofs.Choice.{clash, is-false, true-or-false}
+use Rattle.laws.proofs.Rows.{sum-cong}
 use Rattle.table.specs.declared.Mode.{Mode}
-use Rattle.table.specs.declared.Mode.the-variants.{N, D1, D2}
 use Rattle.table.specs.declared.Server.{Server}
 use Rattle.table.specs.declared.Task.{Task}
 use Rattle.table.specs.declared.Table.{Table}
@@ -31,19 +28,20 @@ use Rattle.run.specs.declared.Judged.{Judged}
 use Rattle.run.specs.declared.Left.{Left}
 use Rattle.run.specs.declared.Left.the-variants.{Nobody, Done, Cut}
 use Rattle.run.specs.declared.TickAnswer.{TickAnswer}
-use Rattle.run.specs.State.{usedAt, elapsedAt, waitingAt, runsAt, taskWaits, withMode}
+use Rattle.run.specs.State.{usedAt, elapsedAt, waitingAt, runsAt, withMode}
 use Rattle.run.specs.Sound.{sound}
 use Rattle.run.specs.Answers.{charged, ran, finishedBy, cutBy}
 use Rattle.run.specs.Count.{anyFinished, anyCut}
-use Rattle.run.specs.Tick.{atLimit, onward, judge, drops}
+use Rattle.run.specs.Tick.{height, countsAs, raises, judge, drops}
+use Rattle.run.proofs.Judge.{height-at-most, Enough, enough-raised}
 use Rattle.run.proofs.Sound.{LastSound, sound-state}
 use Rattle.run.proofs.Steps.{same-or-not, one-here}
 use Rattle.run.proofs.Tick.{one-is, one-eq, charged-is}
-use Rattle.promises.specs.Condition2.{OneTick, OnTheWay, Judging, stays, rises, rises-on}
-use Rattle.promises.specs.Condition2.{low-cut, is-cut, table, old, new, Ends, Discarded}
+use Rattle.promises.specs.Condition2.{OneTick, OnTheWay, Judging, stays, rises}
+use Rattle.promises.specs.Condition2.{is-cut, table, old, new, Ends, Discarded}
 use Rattle.promises.specs.Condition2.{Waits, Able, Highest, HighestTask, ByTheRules, leaves}
 use Rattle.promises.specs.InUse.{SameRows, SameInUse, RulesSettle}
-use Rattle.promises.proofs.ByTheRules.{dropped, leftBy}
+use Rattle.promises.proofs.ByTheRules.{dropped, leftBy, waits-or-none}
 
 -- Rows in use of two tables.
 pub server-same : {t u : Table} → SameRows t u → (i : ℕ) → i < t .nservers → serverAt t i ≡ serverAt u i
@@ -74,37 +72,25 @@ same-back h =
     }
 
 -- Step 1. Judging leaves no choice: what it comes to is what the definition computes.
-abbrev enough : Mode → ℕ → ℕ
-enough N n = suc (suc (suc n))
-enough D1 n = suc (suc n)
-enough D2 n = suc n
-
-judging-comes : (t : Table) (k c : ℕ) {m m′ : Mode} {l : Left} → Judging t k c m m′ l → (n : ℕ) →
-    (judge (enough m n) (taskAt t k) c m .mode ≡ m′) × (leftBy k (judge (enough m n) (taskAt t k) c m) ≡ l)
+judging-comes : (t : Table) (k c : ℕ) {m m′ : Mode} {l : Left} → Judging t k c m m′ l → (n : ℕ) → Enough n m →
+    (judge n (taskAt t k) c m .mode ≡ m′) × (leftBy k (judge n (taskAt t k) c m) ≡ l)
 unfolding judge
-judging-comes t k c (stays N h) n = rw (ne-eqb c (limitAt t N k) h) (refl, refl)
-judging-comes t k c (stays D1 h) n = rw (ne-eqb c (limitAt t D1 k) h) (refl, refl)
-judging-comes t k c (stays D2 h) n = rw (ne-eqb c (limitAt t D2 k) h) (refl, refl)
-judging-comes t k c (rises m l e j) n = rw (eq-eqb c (limitAt t N k) e) (judging-comes t k c j n)
-judging-comes t k c (rises-on m l e h j) n =
-    rw (eq-eqb c (limitAt t D1 k) e) (go (taskAt t k .level) refl (judging-comes t k c j n))
-  where
-    go : (v : Level) → taskAt t k .level ≡ v →
-        (judge (suc n) (taskAt t k) c D2 .mode ≡ m) × (leftBy k (judge (suc n) (taskAt t k) c D2) ≡ l) →
-        (onward (judge (suc n) (taskAt t k) c) D1 (atLimit D1 v) .mode ≡ m) ×
-        (leftBy k (onward (judge (suc n) (taskAt t k) c) D1 (atLimit D1 v)) ≡ l)
-    go LO q ih = absurd (h q)
-    go MI q ih = ih
-    go HI q ih = ih
-judging-comes t k c (low-cut e h) n = rw (eq-eqb c (limitAt t D1 k) e, h) (refl, refl)
-judging-comes t k c (is-cut e) n = rw (eq-eqb c (limitAt t D2 k) e) (refl, refl)
+judging-comes t k c {m} j zero h = absurd (omega (arith, height-at-most (countsAs m)))
+judging-comes t k c (stays m n) (suc i) h = rw (ne-eqb c (limitAt t m k) n) (refl, refl)
+judging-comes t k c (rises m m′ l e u j) (suc i) h =
+    rw (eq-eqb c (limitAt t m k) e, lt-ltb (height (countsAs m)) (height (taskAt t k .level)) u)
+    (judging-comes t k c j i (enough-raised i m (taskAt t k .level) u h))
+judging-comes t k c (is-cut m e n) (suc i) h =
+    rw
+    (eq-eqb c (limitAt t m k) e, is-false (raises m (taskAt t k .level)) (λ u. n (ltb-true _ _ u)))
+    (refl, refl)
 
 judging-same : (t u : Table) (k c : ℕ) {m m′ m″ : Mode} {l l′ : Left} → taskAt t k ≡ taskAt u k →
     Judging t k c m m′ l → Judging u k c m m″ l′ → (m′ ≡ m″) × (l ≡ l′)
 judging-same t u k c {m} e i j =
-    let a = judging-comes t k c i 0 in
-    let b = judging-comes u k c j 0 in
-    let same = ap (λ (v : Task). judge (enough m 0) v c m) e in (
+    let a = judging-comes t k c i 3 (omega arith) in
+    let b = judging-comes u k c j 3 (omega arith) in
+    let same = ap (λ (v : Task). judge 3 v c m) e in (
       sym (a .0) ∙ ap (λ (v : Judged). v .mode) same ∙ b .0,
       sym (a .1) ∙ ap (leftBy k) same ∙ b .1,
     )
@@ -212,7 +198,7 @@ discarded-same h e k l d =
       low = sym (ap (λ (a : Task). a .level) (task-same (h .tables) k l)) ∙ d .low;
     }
 
-discarded-or-not : (x : OneTick) (w : OnTheWay) (k : ℕ) → Discarded x w k ⊎ (Discarded x w k → ⊥)
+pub discarded-or-not : (x : OneTick) (w : OnTheWay) (k : ℕ) → Discarded x w k ⊎ (Discarded x w k → ⊥)
 discarded-or-not x w k =
     let s = withMode (old x) (w .mode) in
     let d = dropped x w s k refl in
@@ -312,29 +298,16 @@ module _ (x y : OneTick) (safe : sound (x .before) ≡ true) (marks : x .mark �
       )
 
   mode : x .says .mode ≡ y .says .mode
-  mode = go (true-or-false (anyBelow (table x .ntasks) (taskWaits (new x))))
-    where
-      none : anyBelow (table x .ntasks) (taskWaits (new x)) ≡ false → (k : ℕ) → k < table x .ntasks →
-          waitingAt (new x) k ≡ 0
-      none e k l =
-          omega (
-            arith,
-            ltb-false 0 (waitingAt (new x) k) (any-none (taskWaits (new x)) (table x .ntasks) k e l),
-          )
-
-      go : (anyBelow (table x .ntasks) (taskWaits (new x)) ≡ true) ⊎
-          (anyBelow (table x .ntasks) (taskWaits (new x)) ≡ false) →
-          x .says .mode ≡ y .says .mode
-      go (inl e) =
-          let f = any-found (taskWaits (new x)) (table x .ntasks) e in
-          let o = ltb-true 0 (waitingAt (new x) (f .0)) (f .2) in
-          p .step3 .some (f .0) (f .1) o ∙ first .0 ∙
-          sym (q .step3 .some (f .0) (task (f .0) (f .1)) (omega (arith, waiting (f .0) (f .1))))
-      go (inr e) =
-          p .step3 .none (none e) ∙
-          sym
-          (q .step3 .none
-          (λ k l. let m : k < table x .ntasks = omega (arith, h .tables .ntasks) in sym (waiting k m) ∙ none e k m))
+  mode =
+      elim (waits-or-none x) [
+        | inl (k, l, w) ↦
+            p .step3 .some k l w ∙ first .0 ∙ sym (q .step3 .some k (task k l) (omega (arith, waiting k l)))
+        | inr n ↦
+            p .step3 .none n ∙
+            sym
+            (q .step3 .none
+            (λ k l. let m : k < table x .ntasks = omega (arith, h .tables .ntasks) in sym (waiting k m) ∙ n k m))
+      ]
 
   counts : (i : ℕ) → i < table x .nservers → (p .way .used i ≡ q .way .used i) × (p .way .elapsed i ≡ q .way .elapsed i)
   counts i l = go (same-or-not (elapsedAt (old x) i) (periodAt (table x) i))

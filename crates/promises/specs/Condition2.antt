@@ -13,7 +13,7 @@ use Rattle.laws.specs.RoundUp.{up}
 use Rattle.table.specs.declared.Kind.the-variants.{Event as EventKind, Timed}
 use Rattle.table.specs.declared.Level.the-variants.{LO}
 use Rattle.table.specs.declared.Mode.{Mode}
-use Rattle.table.specs.declared.Mode.the-variants.{N, D1, D2}
+use Rattle.table.specs.declared.Mode.the-variants.{N, D2}
 use Rattle.table.specs.declared.Table.{Table}
 use Rattle.table.specs.Rows.{serverAt, taskAt, periodAt, priorityAt, capacityAt, limitAt}
 use Rattle.table.specs.Rows.{taskPriorityAt}
@@ -36,7 +36,7 @@ use Rattle.run.specs.State.{usedAt, elapsedAt, waitingAt, runsAt}
 use Rattle.run.specs.Sound.{sound}
 use Rattle.run.specs.Answers.{noOf, ran, finishedBy, cutBy}
 use Rattle.run.specs.Release.{freshRun, startOf, releaseOf}
-use Rattle.run.specs.Tick.{tickOf}
+use Rattle.run.specs.Tick.{height, countsAs, raised, tickOf}
 use Rattle.run.specs.Events.{eventOf, after, answers}
 use Rattle.run.specs.Count.{anyFinished, anyCut, releasedIn, finishedIn, cutIn, discardedIn}
 use Rattle.run.specs.Count.{releasedOf, finishedOf, cutOf}
@@ -115,20 +115,22 @@ pub record OnTheWay : Type 0 where
   pub used : ℕ → ℕ
   pub elapsed : ℕ → ℕ
 
+-- Step 1 is as request No. 4 of document 02 has it. "its level lies above the present one, N
+-- counting as LO and D1 as MI"
+abbrev pub LiesAbove : Table → ℕ → Mode → Type 0
+LiesAbove t k m = height (countsAs m) < height (taskAt t k .level)
+
 -- What becomes of a job of task k whose run count is c: the mode before, the mode after, and the
 -- job that left.
 pub data Judging (t : Table) (k c : ℕ) : Mode → Mode → Left → Type 0 where
   -- "Mark 0 and its run count equals its limit in the present mode": else it stays
   stays : (m : Mode) → (c ≡ limitAt t m k → ⊥) → Judging t k c m m Nobody
-  -- "in N the mode rises to D1"; "After a rise, judge again at the new limit."
-  rises : (m : Mode) (l : Left) → c ≡ limitAt t N k → Judging t k c D1 m l → Judging t k c N m l
-  -- "in D1 it rises to D2 for a MI or HI task"
-  rises-on : (m : Mode) (l : Left) → c ≡ limitAt t D1 k → (taskAt t k .level ≡ LO → ⊥) →
-      Judging t k c D2 m l → Judging t k c D1 m l
-  -- "else the job is cut"
-  low-cut : c ≡ limitAt t D1 k → taskAt t k .level ≡ LO → Judging t k c D1 D1 (Cut k)
-  -- "in D2 the job is cut"
-  is-cut : c ≡ limitAt t D2 k → Judging t k c D2 D2 (Cut k)
+  -- "at its limit a job raises the mode only if its level lies above the present one"; "After a
+  -- rise, judge again at the new limit."
+  rises : (m after : Mode) (l : Left) → c ≡ limitAt t m k → LiesAbove t k m →
+      Judging t k c (raised m) after l → Judging t k c m after l
+  -- "otherwise it is cut"
+  is-cut : (m : Mode) → c ≡ limitAt t m k → (LiesAbove t k m → ⊥) → Judging t k c m m (Cut k)
 
 -- by the mark and the last-run job: mode m is reached, and l is the job that left
 abbrev pub Ends : Table → State → Bool → Last → Mode → Left → Type 0

@@ -31,7 +31,7 @@ use Rattle.run.specs.State.{withLast, withCounts, fresh}
 use Rattle.run.specs.Sound.{soundServer, soundFront, soundTask, soundLast, soundCounts, soundState, sound}
 use Rattle.run.specs.Answers.{noOf}
 use Rattle.run.specs.Release.{freshRun, releaseOf}
-use Rattle.run.specs.Tick.{judge, step1, drops, discards, step2, step3, step4, settle, able, highestAble, highestTask}
+use Rattle.run.specs.Tick.{raises, judge, step1, drops, discards, step2, step3, step4, settle, able, highestAble, highestTask}
 use Rattle.run.specs.Tick.{choose, advance, tickTaken, tickOf}
 use Rattle.run.specs.Events.{eventOf, after, answers}
 use Rattle.run.specs.Example.{byMode, server, task, rows, example}
@@ -78,12 +78,21 @@ tight =
     (server 0 Timed 10 4 (byMode 4 4 4) ∷ [])
     (task 0 0 20 HI (byMode 1 1 1) ∷ task 0 0 10 LO (byMode 2 2 2) ∷ []))
 
+-- One timed server with a task of each level, the higher the level the higher: the MI task's limits
+-- of N and D1 are equal.
+unfoldable pub levels : Table
+levels =
+    tableOf
+    (rows
+    (server 0 Timed 10 9 (byMode 9 9 9) ∷ [])
+    (task 0 0 30 HI (byMode 1 2 3) ∷ task 0 0 20 MI (byMode 1 1 2) ∷ task 0 0 10 LO (byMode 1 2 2) ∷ []))
+
 unfoldable computed : Unit {0}
 unfolding
     every least allBelow anyBelow sumBelow highest anew tableOf tableKeeps keeps serverKeeps taskKeeps
     taskFault taskStands differ waits someWaits soundServer soundFront soundTask soundLast soundCounts soundState sound
     releaseOf judge step1 drops discards step2 step3 step4 settle able highestAble highestTask choose advance
-    tickTaken tickOf after answers example turns crossed tight
+    tickTaken tickOf after answers example turns crossed tight levels
 computed = tt
 
 -- What one tick does.
@@ -125,8 +134,9 @@ pub highest-first : turns (answers (freshRun crossed) (Release 0 ∷ Release 1 �
 unfolding computed
 highest-first = refl
 
--- Step 1, "in N the mode rises to D1; in D1 it rises to D2 for a MI or HI task": task 0 is HI with
--- limits 1, 2, 3. In D2 it is cut; step 3 then finds no job waiting, and that tick is in N.
+-- Step 1, "at its limit a job raises the mode only if its level lies above the present one": task
+-- 0 is HI with limits 1, 2, 3. In D2 it is cut; step 3 then finds no job waiting, and that tick is
+-- in N.
 pub rises-and-is-cut : told (Release 0 ∷ replicate 4 (Tick false)) ≡
     Released 0
     ∷ says 0 N (Ran 0 0) Nobody 0
@@ -143,28 +153,36 @@ pub used-over-modes : map (usedAt (stateAfter (Release 0 ∷ replicate 4 (Tick f
 unfolding computed
 used-over-modes = refl
 
--- "else the job is cut", "After a rise, judge again at the new limit": two jobs of task 2, LO with
--- limits 2, 2, 2. After server 1's five empty ticks the first runs two, rises to D1 and is cut
--- there. The second waits, so the tick stays in D1, where server 1 has 7 ticks, 5 of them used: two
--- more are empty before the second job runs. Finished by mark, it leaves no job waiting, and in N
--- server 1 has 7 ticks used of 5.
-pub low-cut-in-D1 : told (Release 2 ∷ Release 2 ∷ (replicate 10 (Tick false) ++ (Tick true ∷ []))) ≡
+-- "otherwise it is cut. A LO job in N .. now cut": at its limit of 1, and the tick stays in N; the
+-- next one is finished by mark.
+pub low-cut-in-N : answers (freshRun levels) (Release 2 ∷ Release 2 ∷ Tick false ∷ Tick false ∷ Tick true ∷ []) ≡
     Released 2
     ∷ Released 2
-    ∷ says 0 N (Empty 1) Nobody 0
-    ∷ says 1 N (Empty 1) Nobody 0
-    ∷ says 2 N (Empty 1) Nobody 0
-    ∷ says 3 N (Empty 1) Nobody 0
-    ∷ says 4 N (Empty 1) Nobody 0
-    ∷ says 5 N (Ran 2 2) Nobody 0
-    ∷ says 6 N (Ran 2 2) Nobody 0
-    ∷ says 7 D1 (Empty 1) (Cut 2) 0
-    ∷ says 8 D1 (Empty 1) Nobody 0
-    ∷ says 9 D1 (Ran 2 2) Nobody 0
-    ∷ says 10 N (Empty 2) (Done 2) 0
+    ∷ says 0 N (Ran 0 2) Nobody 0
+    ∷ says 1 N (Ran 0 2) (Cut 2) 0
+    ∷ says 2 N (Empty 0) (Done 2) 0
     ∷ []
 unfolding computed
-low-cut-in-D1 = refl
+low-cut-in-N = refl
+
+-- ".. and a MI job in D1 are now cut", "After a rise, judge again at the new limit": the MI job's
+-- limit is 1 in N and in D1, so it raises the mode to D1 and is cut there. The LO job waits, so the
+-- tick is in D1; there it has 2 ticks, is cut, and leaves no job waiting.
+pub middle-cut-in-D1 : answers (freshRun levels) (Release 1 ∷ Release 2 ∷ replicate 4 (Tick false)) ≡
+    Released 1
+    ∷ Released 2
+    ∷ says 0 N (Ran 0 1) Nobody 0
+    ∷ says 1 D1 (Ran 0 2) (Cut 1) 0
+    ∷ says 2 D1 (Ran 0 2) Nobody 0
+    ∷ says 3 N (Empty 0) (Cut 2) 0
+    ∷ []
+unfolding computed
+middle-cut-in-D1 = refl
+
+-- which job at its limit raises the mode: of the levels LO, MI and HI, in N, D1 and D2
+pub who-raises : map (λ m. map (raises m) (LO ∷ MI ∷ HI ∷ [])) (N ∷ D1 ∷ D2 ∷ []) ≡
+    (false ∷ true ∷ true ∷ []) ∷ (false ∷ false ∷ true ∷ []) ∷ (false ∷ false ∷ false ∷ []) ∷ []
+who-raises = refl
 
 -- Step 2, "On entering D2 every waiting LO job is discarded and counted": three of task 2 wait when
 -- task 0 rises to D2.

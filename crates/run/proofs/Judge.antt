@@ -1,12 +1,13 @@
 -- Judging a job at its limit, "after a rise, judge again at the new limit": since limits do not
 -- fall, a job that stays is below its limit in the mode that was reached, and one that is cut is at
--- it. Three judgements are enough for three modes. Assumes nothing.
+-- it. Each law is one of any mode; that three judgements are enough for three modes is said by
+-- their heights. Assumes nothing.
 use mathlib.Core.Path.{_≡_, refl}
 use mathlib.Core.Bool.{true, false}
-use Prim.Native.Nat.{ℕ, suc, _≤_, _<_}
+use Prim.Native.Nat.{ℕ, zero, suc, _+_, _≤_, _<_}
 use native.Mathlib.Omega.{arith}
 use lib.Dec.{eqb}
-use borrow.Author.Tests.{eqb-true, eqb-false}
+use borrow.Author.Tests.{eqb-true, eqb-false, eq-eqb, ne-eqb, ltb-true}
 use Rattle.laws.proofs.Choice.{clash, if-ind}
 use Rattle.table.specs.declared.ByMode.{ByMode}
 use Rattle.table.specs.declared.Level.{Level}
@@ -16,7 +17,27 @@ use Rattle.table.specs.declared.Mode.the-variants.{N, D1, D2}
 use Rattle.table.specs.declared.Task.{Task}
 use Rattle.table.specs.Rows.{inMode}
 use Rattle.run.specs.declared.Judged.{Judged}
-use Rattle.run.specs.Tick.{atLimit, onward, judge}
+use Rattle.run.specs.Tick.{height, countsAs, raises, raised, judge}
+
+-- "its run count equals its limit in the present mode": a job that is not at its limit stays, and
+-- so does the mode.
+pub below-limit : (n : ℕ) (k : Task) (c : ℕ) (m : Mode) → (c ≡ inMode (k .limit) m .0 → ⊥) →
+    judge (suc n) k c m ≡ record { mode = m; cut = false }
+unfolding judge
+below-limit n k c m h = rw (ne-eqb c (inMode (k .limit) m .0) h)
+
+-- "at its limit a job raises the mode only if its level lies above the present one"; "After a rise,
+-- judge again at the new limit."
+pub raises-mode : (n : ℕ) (k : Task) (c : ℕ) (m : Mode) → c ≡ inMode (k .limit) m .0 → raises m (k .level) ≡ true →
+    judge (suc n) k c m ≡ judge n k c (raised m)
+unfolding judge
+raises-mode n k c m h u = rw (eq-eqb c (inMode (k .limit) m .0) h, u)
+
+-- "otherwise it is cut"
+pub is-cut : (n : ℕ) (k : Task) (c : ℕ) (m : Mode) → c ≡ inMode (k .limit) m .0 → raises m (k .level) ≡ false →
+    judge (suc n) k c m ≡ record { mode = m; cut = true }
+unfolding judge
+is-cut n k c m h u = rw (eq-eqb c (inMode (k .limit) m .0) h, u)
 
 -- limits that do not fall
 pub record Rises (x : ByMode) : Type 0 where
@@ -36,50 +57,54 @@ stays-right k c m h = record { up = λ x r. omega arith; stays = λ e. h; cut = 
 cut-right : (k : Task) (c : ℕ) (m : Mode) → c ≡ inMode (k .limit) m .0 → JudgedRight k c m (record { mode = m; cut = true })
 cut-right k c m h = record { up = λ x r. omega arith; stays = λ e. absurd (clash true refl e); cut = λ e. h }
 
-judge-D2 : (n : ℕ) (k : Task) (c : ℕ) → c ≤ inMode (k .limit) D2 .0 → JudgedRight k c D2 (judge (suc n) k c D2)
+-- Levels and modes: there are three heights, a job that raises the mode raises it by one, and its
+-- limit does not fall.
+pub height-at-most : (l : Level) → height l ≤ 2
+height-at-most LO = omega arith
+height-at-most MI = omega arith
+height-at-most HI = omega arith
+
+pub raised-by-one : (m : Mode) (l : Level) → height (countsAs m) < height l →
+    height (countsAs (raised m)) ≡ height (countsAs m) + 1
+raised-by-one N l h = refl
+raised-by-one D1 l h = refl
+raised-by-one D2 l h = absurd (omega (arith, height-at-most l))
+
+limit-raised : (x : ByMode) → Rises x → (m : Mode) → inMode x m .0 ≤ inMode x (raised m) .0
+limit-raised x r N = r .first
+limit-raised x r D1 = r .next
+limit-raised x r D2 = omega arith
+
+-- So n judgements are enough from mode m on, if n and its height make 3.
+abbrev pub Enough : ℕ → Mode → Type 0
+Enough n m = 3 ≤ n + height (countsAs m)
+
+pub enough-raised : (n : ℕ) (m : Mode) (l : Level) → height (countsAs m) < height l → Enough (suc n) m →
+    Enough n (raised m)
+enough-raised n m l u h = omega (arith, raised-by-one m l u)
+
+judged-so : (n : ℕ) (k : Task) (c : ℕ) (m : Mode) → Enough n m → Rises (k .limit) → c ≤ inMode (k .limit) m .0 →
+    JudgedRight k c m (judge n k c m)
 unfolding judge
-judge-D2 n k c h =
+judged-so zero k c m h r l = absurd (omega (arith, height-at-most (countsAs m)))
+judged-so (suc n) k c m h r l =
     if-ind
-    (JudgedRight k c D2)
-    (eqb c (inMode (k .limit) D2 .0))
-    (λ e. cut-right k c D2 (eqb-true c (inMode (k .limit) D2 .0) e))
-    (λ e. stays-right k c D2 (omega (arith, eqb-false c (inMode (k .limit) D2 .0) e)))
-
-rise-D2 : (k : Task) (c : ℕ) (j : Judged) → JudgedRight k c D2 j → JudgedRight k c D1 j
-rise-D2 k c j h = record { up = λ x r. omega (arith, r .next, h .up x r); stays = h .stays; cut = h .cut }
-
-judge-D1 : (n : ℕ) (k : Task) (c : ℕ) → Rises (k .limit) → c ≤ inMode (k .limit) D1 .0 →
-    JudgedRight k c D1 (judge (suc (suc n)) k c D1)
-unfolding judge
-judge-D1 n k c r h =
-    if-ind
-    (JudgedRight k c D1)
-    (eqb c (inMode (k .limit) D1 .0))
-    (λ e. go (k .level) (eqb-true c (inMode (k .limit) D1 .0) e))
-    (λ e. stays-right k c D1 (omega (arith, eqb-false c (inMode (k .limit) D1 .0) e)))
-  where
-    above : JudgedRight k c D1 (judge (suc n) k c D2)
-    above = rise-D2 k c (judge (suc n) k c D2) (judge-D2 n k c (omega (arith, r .next)))
-
-    go : (l : Level) → c ≡ inMode (k .limit) D1 .0 → JudgedRight k c D1 (onward (judge (suc n) k c) D1 (atLimit D1 l))
-    go LO e = cut-right k c D1 e
-    go MI e = above
-    go HI e = above
-
-judge-N : (n : ℕ) (k : Task) (c : ℕ) → Rises (k .limit) → c ≤ inMode (k .limit) N .0 →
-    JudgedRight k c N (judge (suc (suc (suc n))) k c N)
-unfolding judge
-judge-N n k c r h =
-    if-ind
-    (JudgedRight k c N)
-    (eqb c (inMode (k .limit) N .0))
+    (JudgedRight k c m)
+    (eqb c (inMode (k .limit) m .0))
     (λ e.
-    let j = judge-D1 n k c r (omega (arith, r .first)) in
-    record { up = λ x q. omega (arith, q .first, j .up x q); stays = j .stays; cut = j .cut })
-    (λ e. stays-right k c N (omega (arith, eqb-false c (inMode (k .limit) N .0) e)))
+    if-ind
+    (JudgedRight k c m)
+    (raises m (k .level))
+    (λ u.
+    let up = limit-raised (k .limit) r m in
+    let j =
+    judged-so n k c (raised m)
+    (enough-raised n m (k .level) (ltb-true (height (countsAs m)) (height (k .level)) u) h)
+    r (omega (arith, up)) in
+    record { up = λ x q. omega (arith, limit-raised x q m, j .up x q); stays = j .stays; cut = j .cut })
+    (λ u. cut-right k c m (eqb-true c (inMode (k .limit) m .0) e)))
+    (λ e. stays-right k c m (omega (arith, eqb-false c (inMode (k .limit) m .0) e)))
 
 pub judged-right : (k : Task) (c : ℕ) (m : Mode) → Rises (k .limit) → c ≤ inMode (k .limit) m .0 →
     JudgedRight k c m (judge 3 k c m)
-judged-right k c N r h = judge-N 0 k c r h
-judged-right k c D1 r h = judge-D1 1 k c r h
-judged-right k c D2 r h = judge-D2 2 k c h
+judged-right k c m = judged-so 3 k c m (omega arith)

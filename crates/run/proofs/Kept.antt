@@ -37,7 +37,7 @@ use Rattle.run.specs.Answers.{one, ran}
 use Rattle.run.specs.Release.{withJob, freshRun, releaseOf}
 use Rattle.run.specs.Tick.{settle, choose, lastOf, advance, tickTaken, tickOf}
 use Rattle.run.specs.Events.{eventOf, after}
-use Rattle.run.proofs.Taken.{releaseTaken, tickedTaken, release-ind, tick-ind}
+use Rattle.run.proofs.Taken.{ReleaseTaken, releaseTaken, tickedTaken, release-ind, tick-ind}
 use Rattle.run.proofs.Shape.{Shaped, RunShaped, event-run-shaped, settle-counts, fresh-run-shaped}
 use Rattle.run.proofs.Tick.{used-settled, elapsed-settled, used-after, elapsed-after, charged-able, able-room, charged-is}
 use Rattle.run.proofs.Tick.{ran-front, ran-is, one-same, one-eq}
@@ -104,6 +104,13 @@ waiting-released s k j l = go (same-or-not k j)
         let q : waitingAt s k ≡ waitingAt s j = ap (waitingAt s) e in
         omega (arith, set-at (s .waiting) k (waitingAt s k + 1) j l e, one-here k j e)
     go (inr n) = omega (arith, set-past (s .waiting) k (waitingAt s k + 1) j n, one-past k j n)
+
+pub waiting-taken : (r : Run) (k j : ℕ) → RunShaped r → ReleaseTaken r k →
+    waitingAt (releaseTaken r k .run .state) j ≡ waitingAt (r .state) j + one k j
+waiting-taken r k j h y =
+    let rules = table-rules (r .table) (h .table) (sound-table r (y .sound)) in
+    let l : k < r .table .ntasks = ltb-true k (r .table .ntasks) (y .task) in
+    waiting-released (r .state) k j (omega (arith, h .state .waiting, rules .tasks-high))
 
 module _ (t : Table) (s : State) (k : ℕ) (rules : TableRules t) (h : Shaped s) (f : StateSound t s)
     (below : k < t .ntasks) (room : waitingAt s k < 16)

@@ -7,12 +7,11 @@ use Prim.Native.Nat.{ℕ, _+_, _≤_, _<_}
 use native.Mathlib.Omega.{arith}
 use lib.Dec.{eqb}
 use lib.ListN.{length}
-use borrow.Author.Tests.{ltb-true, lt-ltb, eq-eqb, ne-eqb}
+use borrow.Author.Tests.{eqb-true, eqb-false, eq-eqb, ne-eqb, ltb-true, lt-ltb}
 use Rattle.laws.specs.Choice.{if_then_else_}
 use Rattle.laws.proofs.Choice.{clash, if-ind}
 use Rattle.laws.proofs.Rows.{any-at, any-found}
-use Rattle.table.specs.declared.Level.{Level}
-use Rattle.table.specs.declared.Level.the-variants.{LO, MI, HI}
+use Rattle.table.specs.declared.Level.the-variants.{MI, HI}
 use Rattle.table.specs.declared.Mode.{Mode}
 use Rattle.table.specs.declared.Mode.the-variants.{N, D1, D2}
 use Rattle.table.specs.declared.Task.{Task}
@@ -20,9 +19,10 @@ use Rattle.table.specs.declared.Table.{Table}
 use Rattle.table.specs.Rows.{taskAt, periodAt, limitAt, inMode, isLow}
 use Rattle.table.specs.Inner.{Sized}
 use Rattle.table.specs.Rules.{tableKeeps}
-use Rattle.table.proofs.Rules.{TableRules, table-rules}
+use Rattle.table.proofs.Rules.{TableRules}
 use Rattle.run.specs.declared.Last.{Last}
 use Rattle.run.specs.declared.Last.the-variants.{NoJob, Job}
+use Rattle.run.specs.declared.Left.{Left}
 use Rattle.run.specs.declared.Left.the-variants.{Nobody, Done, Cut}
 use Rattle.run.specs.declared.State.{State}
 use Rattle.run.specs.declared.Run.{Run}
@@ -35,14 +35,15 @@ use Rattle.run.specs.Sound.{sound}
 use Rattle.run.specs.Answers.{noOf, finishedBy, cutBy}
 use Rattle.run.specs.Release.{freshRun, releaseOf}
 use Rattle.run.specs.declared.Judged.{Judged}
-use Rattle.run.specs.Tick.{Marked, atLimit, onward, judge, judged, step1, drops, step2, step3, step4, settle, tickTaken}
+use Rattle.run.specs.Tick.{raises, judge, withoutFront, Marked, judged, step1, drops, discards, step2, step3}
+use Rattle.run.specs.Tick.{step4, Settled, settle, choose, advance, tickAnswer, Stepped, tickTaken}
 use Rattle.run.specs.Events.{eventOf, after}
+use Rattle.run.proofs.Judge.{below-limit, raises-mode, is-cut}
 use Rattle.run.proofs.Taken.{release-ind}
 use Rattle.run.proofs.Shape.{Shaped, RunShaped, alike-shaped, mode-alike, step1-alike, event-run-shaped}
 use Rattle.run.proofs.Tick.{used-settled, one-same, one-eq}
-use Rattle.run.proofs.Sound.{sound-table}
 use Rattle.run.proofs.Steps.{set-at, step2-mode, step2-runs, step2-counted, step3-runs}
-use Rattle.run.proofs.Kept.{waiting-released, reached-sound}
+use Rattle.run.proofs.Kept.{waiting-taken, reached-sound}
 use Rattle.run.proofs.Count.{discards-low}
 use Rattle.run.proofs.Refused.{release-13, tick-13}
 
@@ -59,16 +60,7 @@ release-adds r k h =
     r
     k
     (λ why e. let z : _≡_ {A = ℕ} 0 1 = cc in absurd (omega arith))
-    (λ y e.
-    let rules = table-rules (r .table) (h .table) (sound-table r (y .sound)) in
-    let l : k < r .table .ntasks = ltb-true k (r .table .ntasks) (y .task) in (
-      omega (
-        arith,
-        waiting-released (r .state) k k (omega (arith, h .state .waiting, rules .tasks-high)),
-        one-same k,
-      ),
-      refl,
-    ))
+    (λ y e. (omega (arith, waiting-taken r k k h y, one-same k), refl))
 
 pub release-twice : (r : Run) (k : ℕ) → RunShaped r → releaseOf r k .answer ≡ Released k →
     releaseOf (releaseOf r k .run) k .answer ≡ Released k →
@@ -125,67 +117,24 @@ used-anew t s mark i l few h e =
     used-settled t s mark i l few h ∙
     ap (λ (b : Bool). if b then 0 else usedAt s i) (eq-eqb (elapsedAt s i) (periodAt t i) e)
 
--- "its run count equals its limit in the present mode": a job that is not at its limit stays, and
--- so does the mode.
-pub below-limit : (k : Task) (c : ℕ) (m : Mode) → (c ≡ inMode (k .limit) m .0 → ⊥) →
-    judge 3 k c m ≡ record { mode = m; cut = false }
-unfolding judge
-below-limit k c m h = rw (ne-eqb c (inMode (k .limit) m .0) h)
-
--- "in N the mode rises to D1"
-pub rises-to-D1 : (k : Task) (c : ℕ) → c ≡ inMode (k .limit) N .0 → (c ≡ inMode (k .limit) D1 .0 → ⊥) →
-    judge 3 k c N ≡ record { mode = D1; cut = false }
-unfolding judge
-rises-to-D1 k c n d = rw (eq-eqb c (inMode (k .limit) N .0) n, ne-eqb c (inMode (k .limit) D1 .0) d)
-
--- "in D1 it rises to D2 for a MI or HI task"
-pub rises-to-D2 : (k : Task) (c : ℕ) → isLow (k .level) ≡ false → c ≡ inMode (k .limit) D1 .0 →
-    (c ≡ inMode (k .limit) D2 .0 → ⊥) → judge 3 k c D1 ≡ record { mode = D2; cut = false }
-unfolding judge
-rises-to-D2 k c low d b = rw (eq-eqb c (inMode (k .limit) D1 .0) d) (go (k .level) low)
-  where
-    go : (l : Level) → isLow l ≡ false → onward (judge 2 k c) D1 (atLimit D1 l) ≡ record { mode = D2; cut = false }
-    go LO e = absurd (clash true refl e)
-    go MI e = rw (ne-eqb c (inMode (k .limit) D2 .0) b)
-    go HI e = rw (ne-eqb c (inMode (k .limit) D2 .0) b)
-
--- "else the job is cut; in D2 the job is cut"
-pub cut-in-D1 : (k : Task) (c : ℕ) → k .level ≡ LO → c ≡ inMode (k .limit) D1 .0 → judge 3 k c D1 ≡ record { mode = D1; cut = true }
-unfolding judge
-cut-in-D1 k c low d = rw (eq-eqb c (inMode (k .limit) D1 .0) d, low)
-
-pub cut-in-D2 : (k : Task) (c : ℕ) → c ≡ inMode (k .limit) D2 .0 → judge 3 k c D2 ≡ record { mode = D2; cut = true }
-unfolding judge
-cut-in-D2 k c b = rw (eq-eqb c (inMode (k .limit) D2 .0) b)
-
--- "After a rise, judge again at the new limit": a job at its limit in N that is at its limit in D1
--- too rises twice, or is cut if it is at its limit in D2 too; a LO job is cut in D1.
-pub judged-again : (k : Task) (c : ℕ) → isLow (k .level) ≡ false → c ≡ inMode (k .limit) N .0 →
-    c ≡ inMode (k .limit) D1 .0 →
+-- "After a rise, judge again at the new limit": a HI job at its limits in N and in D1 rises twice,
+-- or is cut if it is at its limit in D2 too; a MI job, whose level does not lie above D1, is cut
+-- there.
+pub judged-again : (k : Task) (c : ℕ) → k .level ≡ HI → c ≡ inMode (k .limit) N .0 → c ≡ inMode (k .limit) D1 .0 →
     judge 3 k c N ≡ record { mode = D2; cut = eqb c (inMode (k .limit) D2 .0) }
-unfolding judge
-judged-again k c low n d =
-    rw (eq-eqb c (inMode (k .limit) N .0) n, eq-eqb c (inMode (k .limit) D1 .0) d) (go (k .level) low)
+judged-again k c high n d =
+    raises-mode 2 k c N n (ap (raises N) high) ∙
+    raises-mode 1 k c D1 d (ap (raises D1) high) ∙
+    go (eqb c (inMode (k .limit) D2 .0)) refl
   where
-    last : (b : Bool) →
-        _≡_ {A = Judged}
-        (if b then record { mode = D2; cut = true } else record { mode = D2; cut = false })
-        (record { mode = D2; cut = b })
-    last true = refl
-    last false = refl
+    go : (b : Bool) → eqb c (inMode (k .limit) D2 .0) ≡ b → judge 1 k c D2 ≡ record { mode = D2; cut = b }
+    go true e = is-cut 0 k c D2 (eqb-true c (inMode (k .limit) D2 .0) e) (ap (raises D2) high)
+    go false e = below-limit 0 k c D2 (eqb-false c (inMode (k .limit) D2 .0) e)
 
-    go : (l : Level) → isLow l ≡ false →
-        onward (judge 1 k c) D1 (atLimit D1 l) ≡ record { mode = D2; cut = eqb c (inMode (k .limit) D2 .0) }
-    go LO e = absurd (clash true refl e)
-    go MI e = last (eqb c (inMode (k .limit) D2 .0))
-    go HI e = last (eqb c (inMode (k .limit) D2 .0))
-
-pub judged-again-low : (k : Task) (c : ℕ) → k .level ≡ LO → c ≡ inMode (k .limit) N .0 → c ≡ inMode (k .limit) D1 .0 →
+pub judged-again-MI : (k : Task) (c : ℕ) → k .level ≡ MI → c ≡ inMode (k .limit) N .0 → c ≡ inMode (k .limit) D1 .0 →
     judge 3 k c N ≡ record { mode = D1; cut = true }
-unfolding judge
-judged-again-low k c low n d =
-    rw (eq-eqb c (inMode (k .limit) N .0) n, eq-eqb c (inMode (k .limit) D1 .0) d)
-    (ap (λ (l : Level). onward (judge 1 k c) D1 (atLimit D1 l)) low)
+judged-again-MI k c middle n d =
+    raises-mode 2 k c N n (ap (raises N) middle) ∙ is-cut 1 k c D1 d (ap (raises D1) middle)
 
 -- a waiting job that is not LO is not discarded, so step 3 leaves the mode
 waits-on : (t : Table) (m : Mode) (s : State) (k : ℕ) → t .ntasks ≤ 64 → Shaped s → k < t .ntasks → 0 < waitingAt s k →
@@ -202,39 +151,65 @@ waits-on t m s k many h l w low =
 -- In a whole tick: the job that is below its limit in D2 stays, and the tick is in D2; the one that
 -- is at it is cut.
 again-one : (t : Table) (s : State) (k : ℕ) (b : Bool) → s .last ≡ Job k → s .mode ≡ N →
-    isLow (taskAt t k .level) ≡ false →
+    taskAt t k .level ≡ HI →
     runsAt s k ≡ limitAt t N k → runsAt s k ≡ limitAt t D1 k → eqb (runsAt s k) (limitAt t D2 k) ≡ b →
     step1 t s false (s .last) ≡ judged s k (record { mode = D2; cut = b })
 unfolding step1
-again-one t s k b last mode low n d e =
+again-one t s k b last mode high n d e =
     ap (step1 t s false) last ∙
     ap (judged s k)
     (ap (judge 3 (taskAt t k) (runsAt s k)) mode ∙
-    judged-again (taskAt t k) (runsAt s k) low n d ∙
+    judged-again (taskAt t k) (runsAt s k) high n d ∙
     ap (λ (b : Bool). record { mode = D2; cut = b }) e)
 
 pub rises-twice : (t : Table) (s : State) (k : ℕ) → t .ntasks ≤ 64 → Shaped s → k < t .ntasks → 0 < waitingAt s k →
-    s .last ≡ Job k → s .mode ≡ N → isLow (taskAt t k .level) ≡ false →
+    s .last ≡ Job k → s .mode ≡ N → taskAt t k .level ≡ HI →
     runsAt s k ≡ limitAt t N k → runsAt s k ≡ limitAt t D1 k → runsAt s k < limitAt t D2 k →
     (tickTaken t s false .answer .mode ≡ D2) × (tickTaken t s false .answer .left ≡ Nobody)
 unfolding tickTaken settle step4
-rises-twice t s k many h l w last mode low n d b =
+rises-twice t s k many h l w last mode high n d b =
     (ap (λ (m : Marked). step3 t (step2 t (s .mode) (m .state)) .mode) is ∙ stays, ap (λ (m : Marked). m .left) is)
   where
     is : step1 t s false (s .last) ≡ record { state = withMode s D2; left = Nobody }
-    is = again-one t s k false last mode low n d (ne-eqb (runsAt s k) (limitAt t D2 k) (λ e. omega arith))
+    is = again-one t s k false last mode high n d (ne-eqb (runsAt s k) (limitAt t D2 k) (λ e. omega arith))
 
     stays : step3 t (step2 t (s .mode) (withMode s D2)) .mode ≡ D2
-    stays = waits-on t (s .mode) (withMode s D2) k many (alike-shaped (mode-alike s D2) h) l w low
+    stays = waits-on t (s .mode) (withMode s D2) k many (alike-shaped (mode-alike s D2) h) l w (ap isLow high)
 
-pub cut-at-once : (t : Table) (s : State) (k : ℕ) → s .last ≡ Job k → s .mode ≡ N → isLow (taskAt t k .level) ≡ false →
+pub cut-at-once : (t : Table) (s : State) (k : ℕ) → s .last ≡ Job k → s .mode ≡ N → taskAt t k .level ≡ HI →
     runsAt s k ≡ limitAt t N k → runsAt s k ≡ limitAt t D1 k → runsAt s k ≡ limitAt t D2 k →
     tickTaken t s false .answer .left ≡ Cut k
 unfolding tickTaken settle
-cut-at-once t s k last mode low n d b =
+cut-at-once t s k last mode high n d b =
     ap
     (λ (m : Marked). m .left)
-    (again-one t s k true last mode low n d (eq-eqb (runsAt s k) (limitAt t D2 k) b))
+    (again-one t s k true last mode high n d (eq-eqb (runsAt s k) (limitAt t D2 k) b))
+
+-- A job that is cut without a rise leaves the run as one that is finished by mark would: the tick
+-- is made of the same state, and only how the job left is another.
+abbrev pub tickFrom : Table → State → State → Left → Stepped
+tickFrom t s one left =
+    let z : Settled =
+    record {
+      state = step4 t (step3 t (step2 t (s .mode) one));
+      left = left;
+      discarded = discards t (s .mode) one;
+    } in
+    record { answer = tickAnswer t (s .ticks) z; state = advance t (z .state) (choose t (z .state)) }
+
+pub tick-done : (t : Table) (s : State) (k : ℕ) → s .last ≡ Job k →
+    tickTaken t s true ≡ tickFrom t s (withoutFront s k) (Done k)
+unfolding tickTaken settle step1
+tick-done t s k last =
+    ap (λ (l : Last). let one = step1 t s true l in tickFrom t s (one .state) (one .left)) last
+
+pub tick-cut : (t : Table) (s : State) (k : ℕ) → s .last ≡ Job k → runsAt s k ≡ limitAt t (s .mode) k →
+    raises (s .mode) (taskAt t k .level) ≡ false → tickTaken t s false ≡ tickFrom t s (withoutFront s k) (Cut k)
+unfolding tickTaken settle step1
+tick-cut t s k last n u =
+    ap (λ (l : Last). let one = step1 t s false l in tickFrom t s (one .state) (one .left)) last ∙
+    ap (λ (j : Judged). let one = judged s k j in tickFrom t s (one .state) (one .left))
+    (is-cut 2 (taskAt t k) (runsAt s k) (s .mode) n u)
 
 step3-normal : (t : Table) (s : State) → ((k : ℕ) → k < t .ntasks → waitingAt (step3 t s) k ≡ 0) → step3 t s .mode ≡ N
 unfolding step3 someWaits

@@ -34,24 +34,31 @@ use Rattle.run.specs.Sound.{sound}
 use Rattle.run.specs.Answers.{charged, ran}
 use Rattle.run.specs.Release.{refused}
 
--- Step 1. "in N the mode rises to D1; in D1 it rises to D2 for a MI or HI task, else the job is
--- cut; in D2 the job is cut"
+-- Step 1, as request No. 4 of document 02 has it: "at its limit a job raises the mode only if its
+-- level lies above the present one, N counting as LO and D1 as MI; otherwise it is cut." (In the
+-- manner of Condition 3 of source document 004.)
 
--- what becomes of a job at its limit
-pub data AtLimit : Type 0 where
-  rises : Mode → AtLimit
-  isCut : AtLimit
+-- how high a level lies: "LO < MI < HI"
+abbrev pub height : Level → ℕ
+height LO = 0
+height MI = 1
+height HI = 2
 
-abbrev pub atLimit : Mode → Level → AtLimit
-atLimit N l = rises D1
-atLimit D1 LO = isCut
-atLimit D1 MI = rises D2
-atLimit D1 HI = rises D2
-atLimit D2 l = isCut
+-- "N counting as LO and D1 as MI", and D2 as HI
+abbrev pub countsAs : Mode → Level
+countsAs N = LO
+countsAs D1 = MI
+countsAs D2 = HI
 
-abbrev pub onward : (Mode → Judged) → Mode → AtLimit → Judged
-onward again m (rises m′) = again m′
-onward again m isCut = record { mode = m; cut = true }
+-- "its level lies above the present one"
+abbrev pub raises : Mode → Level → Bool
+raises m l = ltb (height (countsAs m)) (height l)
+
+-- the mode that is raised becomes the next one; above D2, where no level lies, there is none
+abbrev pub raised : Mode → Mode
+raised N = D1
+raised D1 = D2
+raised D2 = D2
 
 -- "Mark 0 and its run count equals its limit in the present mode: .. After a rise, judge again at
 -- the new limit." The job is of task k and has run c ticks; it is judged at most so many times.
@@ -59,7 +66,7 @@ unfoldable pub judge : ℕ → Task → ℕ → Mode → Judged
 judge zero k c m = record { mode = m; cut = false }
 judge (suc n) k c m =
     if eqb c (inMode (k .limit) m .0)
-    then onward (judge n k c) m (atLimit m (k .level))
+    then (if raises m (k .level) then judge n k c (raised m) else record { mode = m; cut = true })
     else record { mode = m; cut = false }
 
 -- the front job of task k leaves: one fewer waits, and "the front job's count starts at 0"

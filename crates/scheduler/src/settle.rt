@@ -23,8 +23,8 @@ ghost use Prim.Native.Nat.{_+_, _-_, _≤_, _<_};
 ghost use lib.ListN.{getD, set};
 ghost use Rattle.laws.specs.Choice.{if_then_else_};
 ghost use Rattle.laws.specs.Rows.{anew, anyBelow, sumBelow};
-ghost use Rattle.run.specs.Tick.{enters};
-ghost use Rattle.scheduler.specs.Inner.Steps.{Judges, JudgesInD2, RanJob, Marks, noneFound, keptOf};
+ghost use Rattle.run.specs.Tick.{countsAs, raises, raised, enters};
+ghost use Rattle.scheduler.specs.Inner.Steps.{Judges, RanJob, Marks, noneFound, keptOf};
 ghost use Rattle.scheduler.specs.Inner.Steps.{goneOf, notedOf, Discards, waitsAt, isN, SettlesMode};
 ghost use Rattle.scheduler.specs.Inner.Steps.{Refills, Few, Settles};
 
@@ -42,58 +42,48 @@ pub struct Settling {
     pub discarded: u32,
 }
 
-// "in D2 the job is cut"
-fn judge_in_d2(x: ByMode, c: u32) -> Judged
-    ensures { λ r. ⌜ JudgesInD2 x c r ⌝ }
-{
-    Judged {
-        mode: Mode::D2,
-        cut: c == x.d2.0,
-    }
-}
-
-// "in D1 it rises to D2 for a MI or HI task, else the job is cut"
-fn judge_in_d1(x: ByMode, l: Level, c: u32) -> Judged
-    ensures { λ r. ⌜ Judges 2 x l c Mode.D1 r ⌝ }
-{
-    if c != x.d1.0 {
-        return Judged {
-            mode: Mode::D1,
-            cut: false,
-        };
-    }
-    if table::is_low(l) {
-        return Judged {
-            mode: Mode::D1,
-            cut: true,
-        };
-    }
-    judge_in_d2(x, c)
-}
-
-// "in N the mode rises to D1"
-fn judge_in_n(x: ByMode, l: Level, c: u32) -> Judged
-    ensures { λ r. ⌜ Judges 3 x l c Mode.N r ⌝ }
-{
-    if c != x.n.0 {
-        return Judged {
-            mode: Mode::N,
-            cut: false,
-        };
-    }
-    judge_in_d1(x, l, c)
-}
-
-// "After a rise, judge again at the new limit." The job is of a task with these limits and this
-// level, and has run so many ticks.
-fn judge_job(x: ByMode, l: Level, c: u32, m: Mode) -> Judged
-    ensures { λ r. ⌜ Judges 3 x l c m r ⌝ }
+// "N counting as LO and D1 as MI", and D2 as HI
+fn counts_as(m: Mode) -> Level
+    ensures { λ r. ⌜ r ≡ countsAs m ⌝ }
 {
     match m {
-        Mode::N => judge_in_n(x, l, c),
-        Mode::D1 => judge_in_d1(x, l, c),
-        Mode::D2 => judge_in_d2(x, c),
+        Mode::N => Level::LO,
+        Mode::D1 => Level::MI,
+        Mode::D2 => Level::HI,
     }
+}
+
+// "its level lies above the present one"
+fn raises(m: Mode, l: Level) -> bool
+    ensures { λ r. ⌜ r ≡ raises m l ⌝ }
+{
+    sheets::level_height(counts_as(m)) < sheets::level_height(l)
+}
+
+fn raised(m: Mode) -> Mode
+    ensures { λ r. ⌜ r ≡ raised m ⌝ }
+{
+    match m {
+        Mode::N => Mode::D1,
+        Mode::D1 => Mode::D2,
+        Mode::D2 => Mode::D2,
+    }
+}
+
+// "at its limit a job raises the mode only if its level lies above the present one ..; otherwise it
+// is cut", "After a rise, judge again at the new limit." The job is of a task with these limits and
+// this level, and has run so many ticks.
+fn judge_job(x: ByMode, l: Level, c: u32, m: Mode) -> Judged
+    ensures { λ r. ⌜ Judges x l c m r ⌝ }
+{
+    let mut mode = m;
+    while c == table::in_mode(x, mode).0 {
+        if !raises(mode, l) {
+            return Judged { mode, cut: true };
+        }
+        mode = raised(mode);
+    }
+    Judged { mode, cut: false }
 }
 
 fn limits_of(tasks: &[u32; TASK_CELLS], k: usize) -> ByMode

@@ -12,7 +12,8 @@ ghost use mathlib.Core.Path.{_≡_};
 ghost use Prim.Native.Nat.{_+_, _<_};
 ghost use lib.ListN.{length, getD, set};
 ghost use Rattle.table.specs.Rows.{noServer, noTask};
-ghost use Rattle.scheduler.specs.Inner.Columns.{kindNumber, levelNumber, levelIn, serverCells, taskCells, written, OnSheet};
+ghost use Rattle.run.specs.Tick.{height};
+ghost use Rattle.scheduler.specs.Inner.Columns.{kindNumber, levelIn, serverCells, taskCells, written, OnSheet};
 
 // Where each column begins.
 pub(crate) const SERVER_PRIORITY: usize = 0;
@@ -83,8 +84,9 @@ fn kind_number(k: Kind) -> u32
     }
 }
 
-fn level_number(l: Level) -> u32
-    ensures { λ r. ⌜ r ≡ levelNumber l ⌝ }
+// How high a level lies.
+pub(crate) fn level_height(l: Level) -> u32
+    ensures { λ r. ⌜ r ≡ height l ⌝ }
 {
     match l {
         Level::LO => 0,
@@ -137,7 +139,7 @@ fn put_task(sheet: &mut [u32; TASK_CELLS], k: usize, t: Task)
 {
     let x = t.limit;
     let l = t.level;
-    let level = level_number(l);
+    let level = level_height(l);
     put_task_cell(sheet, HOME, k, t.home as u32);
     put_task_cell(sheet, DEGRADED, k, t.degraded as u32);
     put_task_cell(sheet, TASK_PRIORITY, k, t.priority as u32);

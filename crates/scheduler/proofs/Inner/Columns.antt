@@ -21,8 +21,9 @@ use Rattle.table.specs.declared.Mode.the-variants.{N, D1, D2}
 use Rattle.table.specs.declared.Table.{Table}
 use Rattle.table.specs.Rows.{serverAt, taskAt, capacityAt, isTimed, isLow}
 use Rattle.run.specs.State.{owner}
+use Rattle.run.specs.Tick.{height}
 use Rattle.run.proofs.Steps.{same-or-not}
-use Rattle.scheduler.specs.Inner.Columns.{kindNumber, levelNumber, levelIn, written, OnSheet, ServersOn, TasksOn}
+use Rattle.scheduler.specs.Inner.Columns.{kindNumber, levelIn, written, OnSheet, ServersOn, TasksOn}
 use Rattle.scheduler.specs.Inner.Choose.{ownerColumn, capacityColumn}
 
 -- a kind and a level, told by their numbers
@@ -30,12 +31,12 @@ pub timed-number : (k : Kind) → not (eqb (kindNumber k) 0) ≡ isTimed k
 timed-number Event = refl
 timed-number Timed = refl
 
-pub low-number : (l : Level) → eqb (levelNumber l) 0 ≡ isLow l
+pub low-number : (l : Level) → eqb (height l) 0 ≡ isLow l
 low-number LO = refl
 low-number MI = refl
 low-number HI = refl
 
-pub level-back : (l : Level) → levelIn (levelNumber l) ≡ l
+pub level-back : (l : Level) → levelIn (height l) ≡ l
 level-back LO = refl
 level-back MI = refl
 level-back HI = refl

@@ -9,19 +9,19 @@ use native.Mathlib.Nat.{add-zero, zero-add, suc-add}
 use lib.Dec.{eqb}
 use lib.ListN.{length, getD, set, length-set, replicate, getD-replicate}
 use lib.Seq.{ext-getD, getD-set-same, getD-set-other}
-use borrow.Author.Tests.{eq-eqb, ne-eqb}
+use borrow.Author.Tests.{ltb-true}
 use Rattle.laws.specs.Choice.{if_then_else_}
 use Rattle.laws.specs.Rows.{anew, anyBelow, sumBelow}
 use Rattle.laws.proofs.Choice.{le-or-lt}
 use Rattle.laws.proofs.Anew.{length-anew, anew-at, anew-past, anew-cong, anew-same, anew-row, anew-put, anew-stay}
 use Rattle.laws.proofs.Rows.{sum-next, sum-cong, sum-zero}
+use Rattle.table.specs.declared.ByMode.{ByMode}
 use Rattle.table.specs.declared.Level.{Level}
-use Rattle.table.specs.declared.Level.the-variants.{LO, MI, HI}
 use Rattle.table.specs.declared.Mode.{Mode}
 use Rattle.table.specs.declared.Mode.the-variants.{N, D1, D2}
 use Rattle.table.specs.declared.Table.{Table}
 use Rattle.table.specs.declared.Task.{Task}
-use Rattle.table.specs.Rows.{periodAt, taskAt, inMode, isLow}
+use Rattle.table.specs.Rows.{periodAt, taskAt, inMode}
 use Rattle.run.specs.declared.Judged.{Judged}
 use Rattle.run.specs.declared.Left.{Left}
 use Rattle.run.specs.declared.Left.the-variants.{Nobody, Done, Cut}
@@ -30,68 +30,39 @@ use Rattle.run.specs.declared.Turn.{Turn}
 use Rattle.run.specs.declared.Turn.the-variants.{Run as Ran, Empty, Idle}
 use Rattle.run.specs.Answers.{one}
 use Rattle.run.specs.State.{someWaits, withMode}
-use Rattle.run.specs.Tick.{judge, onward, atLimit, step1, enters, drops, discards, step2, step3, step4, settle, step5, step6, step7, advance}
+use Rattle.run.specs.Tick.{height, countsAs, raises, raised, judge, step1, enters, drops, discards, step2, step3, step4, settle, step5, step6, step7, advance}
+use Rattle.run.proofs.Judge.{below-limit, raises-mode, is-cut, height-at-most, Enough, enough-raised}
 use Rattle.run.proofs.Tick.{one-same}
 use Rattle.run.proofs.Steps.{same-or-not, one-past}
 use Rattle.scheduler.specs.declared.parts.Head.{Head}
 use Rattle.scheduler.specs.Inner.Parts.{lastIn, stateOf, atMode}
-use Rattle.scheduler.specs.Inner.Steps.{noneFound, keptOf, goneOf, notedOf, Discards, waitsAt, isN}
+use Rattle.scheduler.specs.Inner.Steps.{Judges, noneFound, keptOf, goneOf, notedOf, Discards, waitsAt, isN}
 use Rattle.scheduler.specs.Inner.Steps.{SettlesMode, Refills, Charges, afterRun, later, RunsFront, Ages}
 use Rattle.scheduler.proofs.Inner.Columns.{low-on, period-on}
 
--- Step 1: a job is judged at its mode's limit, then at the next.
-pub below-limit : (n : ℕ) (k : Task) (c : ℕ) (m : Mode) → (c ≡ inMode (k .limit) m .0 → ⊥) →
-    record { mode = m; cut = false } ≡ judge (suc n) k c m
-unfolding judge
-below-limit n k c m h = rw (ne-eqb c (inMode (k .limit) m .0) h)
+-- Step 1: a job that was judged from mode m₀ on is still to be judged in mode m.
+abbrev pub StillJudged : ByMode → Level → ℕ → Mode → Mode → Type 0
+StillJudged x l c m₀ m =
+    (n : ℕ) × Enough (suc n) m ×
+    ((k : Task) → k .limit ≡ x → k .level ≡ l → judge 3 k c m₀ ≡ judge (suc n) k c m)
 
-pub last-judged : (k : Task) (c : ℕ) → record { mode = D2; cut = eqb c (k .limit .d2 .0) } ≡ judge 1 k c D2
-unfolding judge
-last-judged k c = go (eqb c (k .limit .d2 .0))
-  where
-    go : (b : Bool) →
-        _≡_ {A = Judged} (record { mode = D2; cut = b })
-        (if b then record { mode = D2; cut = true } else record { mode = D2; cut = false })
-    go true = refl
-    go false = refl
+module _ (x : ByMode) (l : Level) (c : ℕ) (m₀ m : Mode) where
+  pub judged-on : StillJudged x l c m₀ m → c ≡ inMode x m .0 → raises m l ≡ true → StillJudged x l c m₀ (raised m)
+  judged-on (zero, h, f) q u =
+      absurd (omega (arith, height-at-most l, ltb-true (height (countsAs m)) (height l) u))
+  judged-on (suc n, h, f) q u = (
+    n,
+    enough-raised (suc n) m l (ltb-true (height (countsAs m)) (height l) u) h,
+    λ k e g. f k e g ∙ raises-mode (suc n) k c m (rw e q) (rw g u),
+  )
 
-low-cut : (again : Mode → Judged) (l : Level) → isLow l ≡ true →
-    record { mode = D1; cut = true } ≡ onward again D1 (atLimit D1 l)
-low-cut again LO e = refl
-low-cut again MI e = cc
-low-cut again HI e = cc
+  pub judged-cut : StillJudged x l c m₀ m → c ≡ inMode x m .0 → raises m l ≡ false →
+      Judges x l c m₀ (record { mode = m; cut = true })
+  judged-cut (n, h, f) q u k e g = sym (f k e g ∙ is-cut n k c m (rw e q) (rw g u))
 
-others-rise : (again : Mode → Judged) (l : Level) → isLow l ≡ false → again D2 ≡ onward again D1 (atLimit D1 l)
-others-rise again LO e = cc
-others-rise again MI e = refl
-others-rise again HI e = refl
-
-pub cut-in-d1 : (k : Task) (c : ℕ) → c ≡ k .limit .d1 .0 → isLow (k .level) ≡ true →
-    record { mode = D1; cut = true } ≡ judge 2 k c D1
-unfolding judge
-cut-in-d1 k c h l = rw (eq-eqb c (k .limit .d1 .0) h) (low-cut (judge 1 k c) (k .level) l)
-
-pub rise-from-d1 : (k : Task) (c : ℕ) → c ≡ k .limit .d1 .0 → isLow (k .level) ≡ false → judge 1 k c D2 ≡ judge 2 k c D1
-unfolding judge
-rise-from-d1 k c h l = rw (eq-eqb c (k .limit .d1 .0) h) (others-rise (judge 1 k c) (k .level) l)
-
-pub rise-from-n : (k : Task) (c : ℕ) → c ≡ k .limit .n .0 → judge 2 k c D1 ≡ judge 3 k c N
-unfolding judge
-rise-from-n k c h = rw (eq-eqb c (k .limit .n .0) h)
-
--- three times are enough for any mode
-pub thrice-d1 : (k : Task) (c : ℕ) → judge 2 k c D1 ≡ judge 3 k c D1
-unfolding judge
-thrice-d1 k c = ap (λ j. if eqb c (k .limit .d1 .0) then j else record { mode = D1; cut = false }) (go (k .level))
-  where
-    go : (l : Level) → onward (judge 1 k c) D1 (atLimit D1 l) ≡ onward (judge 2 k c) D1 (atLimit D1 l)
-    go LO = refl
-    go MI = refl
-    go HI = refl
-
-pub thrice-d2 : (k : Task) (c : ℕ) → judge 1 k c D2 ≡ judge 3 k c D2
-unfolding judge
-thrice-d2 k c = refl
+  pub judged-stays : StillJudged x l c m₀ m → (c ≡ inMode x m .0 → ⊥) →
+      Judges x l c m₀ (record { mode = m; cut = false })
+  judged-stays (n, h, f) q k e g = sym (f k e g ∙ below-limit n k c m (rw e q))
 
 module _ (t : Table) (h : Head) (u e w c : List ℕ) (mark : Bool) where
   abbrev Left-so : List ℕ → List ℕ → Mode → Left → Type 0

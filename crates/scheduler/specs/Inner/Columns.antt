@@ -11,16 +11,13 @@ use Rattle.table.specs.declared.Server.{Server}
 use Rattle.table.specs.declared.Task.{Task}
 use Rattle.table.specs.declared.Table.{Table}
 use Rattle.table.specs.Rows.{serverAt, taskAt}
+use Rattle.run.specs.Tick.{height}
 
 abbrev pub kindNumber : Kind → ℕ
 kindNumber Event = 0
 kindNumber Timed = 1
 
-abbrev pub levelNumber : Level → ℕ
-levelNumber LO = 0
-levelNumber MI = 1
-levelNumber HI = 2
-
+-- the level of a height
 abbrev pub levelIn : ℕ → Level
 levelIn zero = LO
 levelIn (suc zero) = MI
@@ -42,7 +39,7 @@ taskCells k =
     k .home
     ∷ k .degraded
     ∷ k .priority
-    ∷ levelNumber (k .level)
+    ∷ height (k .level)
     ∷ k .limit .n .0
     ∷ k .limit .d1 .0
     ∷ k .limit .d2 .0

@@ -43,13 +43,9 @@ pub record Few (h : Head) : Type 0 where
   pub servers : h .nservers ≤ 32
   pub tasks : h .ntasks ≤ 64
 
--- Step 1. A job of a task with these limits and this level is judged, at most n times.
-abbrev pub Judges : ℕ → ByMode → Level → ℕ → Mode → Judged → Type 0
-Judges n x l c m r = (k : Task) → k .limit ≡ x → k .level ≡ l → r ≡ judge n k c m
-
--- in D2 its level is not asked
-abbrev pub JudgesInD2 : ByMode → ℕ → Judged → Type 0
-JudgesInD2 x c r = (l : Level) → Judges 1 x l c D2 r
+-- Step 1. A job of a task with these limits and this level is judged.
+abbrev pub Judges : ByMode → Level → ℕ → Mode → Judged → Type 0
+Judges x l c m r = (k : Task) → k .limit ≡ x → k .level ≡ l → r ≡ judge 3 k c m
 
 -- the last-run task, if any, has a waiting job
 abbrev pub RanJob : Head → List ℕ → Type 0

@@ -20,7 +20,7 @@ returns c =
       c₃ .put-task-cell3 .ensures,
       c₂ .put-task-cell2 .ensures,
       c₁ .put-task-cell .ensures,
-      c₁ .before .before .before .level-number .ensures,
+      c₁ .before .before .before .level-height .ensures,
     )
 
 pub put-task-spec : {M : Type 1} → statement M
