@@ -130,6 +130,13 @@ module _ {d : List ℕ} {at : ℕ} {e : List ℕ} {r : ℕ} where
   pub put-whole : (xs : List ℕ) → r ≤ length d → Put xs d at e r → at + length xs ≤ length d
   put-whole xs h p = omega (arith, p .ends)
 
+-- at the front of a room that is long enough: as many bytes as are answered are the text
+pub put-front : (xs : List ℕ) {d : List ℕ} {e : List ℕ} {r : ℕ} → length xs ≤ length d → Put xs d 0 e r → take r e ≡ xs
+put-front xs {d = d} {r = r} h p =
+    let whole = put-fits xs (omega arith) p in
+    let size : length xs ≡ r = omega (arith, whole .1) in
+    ap (take r) (whole .0) ∙ take-at xs (drop (0 + length xs) d) r size
+
 -- one text after another
 module _ {d : List ℕ} {at : ℕ} {e : List ℕ} {k : ℕ} {f : List ℕ} {r : ℕ} where
   pub put-more : (xs ys : List ℕ) → Put xs d at e k → Put ys e k f r → Put (xs ++ ys) d at f r

@@ -97,3 +97,9 @@ larger-left a b = if-ind (λ (n : ℕ). a ≤ n) (ltb a b) (λ e. omega (arith, 
 
 pub larger-right : (a b : ℕ) → b ≤ larger a b
 larger-right a b = if-ind (λ (n : ℕ). b ≤ n) (ltb a b) (λ e. omega arith) (λ e. omega (arith, ltb-false a b e))
+
+-- a number that says a case: 0, 1, or another
+pub others : (w : ℕ) → (w ≡ 0 → ⊥) → (w ≡ 1 → ⊥) → (x : ℕ) × (w ≡ suc (suc x))
+others zero h g = absurd (h refl)
+others (suc zero) h g = absurd (g refl)
+others (suc (suc x)) h g = (x, refl)

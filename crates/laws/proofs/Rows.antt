@@ -1,12 +1,16 @@
--- Laws of what holds of all or some rows, and of sums over rows. Assumes nothing.
-use mathlib.Core.Path.{_≡_, refl}
+-- Laws of what holds of all or some rows, of sums over rows, and of lists made row by row. Assumes
+-- nothing.
+use mathlib.Core.Path.{_≡_, refl, sym, ap, _∙_}
 use mathlib.Core.Bool.{Bool, true, false}
+use mathlib.Core.List.{List}
 use mathlib.Core.Logic.{_⊎_, inl, inr}
 use Prim.Native.Nat.{ℕ, zero, suc, _+_, _≤_, _<_}
 use native.Mathlib.Omega.{arith}
 use native.Mathlib.Numerals.{add-one}
+use lib.ListN.{length, getD}
+use lib.Seq.{ext-getD}
 use borrow.Author.Count.{below-more}
-use Rattle.laws.specs.Rows.{allBelow, anyBelow, sumBelow}
+use Rattle.laws.specs.Rows.{allBelow, anyBelow, sumBelow, listed}
 use Rattle.laws.proofs.Choice.{clash, and-left, and-right, and-true, or-cases, or-false, true-or-false}
 
 -- one row more, as a definition and as a loop has it
@@ -107,3 +111,21 @@ unfolding sumBelow
 sum-part f zero k h = absurd (omega arith)
 sum-part f (suc n) k h =
     upto (λ j. f j ≤ sumBelow n f + f n) n (λ j l. omega (arith, sum-part f n j l)) (omega arith) k h
+
+-- a list made row by row: its length, its rows, and that a list with these rows is it
+pub length-listed : {A : Type 0} (n : ℕ) (f : ℕ → A) → length (listed n f) ≡ n
+unfolding listed
+length-listed zero f = refl
+length-listed (suc n) f = ap suc (length-listed n (λ i. f (suc i)))
+
+pub listed-at : {A : Type 0} (n : ℕ) (f : ℕ → A) (i : ℕ) (d : A) → i < n → getD (listed n f) i d ≡ f i
+unfolding listed
+listed-at zero f i d h = absurd (omega arith)
+listed-at (suc n) f zero d h = refl
+listed-at (suc n) f (suc i) d h = listed-at n (λ j. f (suc j)) i d (omega arith)
+
+pub is-listed : {A : Type 0} (n : ℕ) (f : ℕ → A) (d : A) (xs : List A) → length xs ≡ n →
+    ((i : ℕ) → i < n → getD xs i d ≡ f i) → xs ≡ listed n f
+is-listed n f d xs e rows =
+    ext-getD d xs (listed n f) (e ∙ sym (length-listed n f))
+    (λ i h. let l : i < n = omega (arith, e) in rows i l ∙ sym (listed-at n f i d l))

@@ -1,5 +1,5 @@
 -- The least number that passes a test: what a search finds. Assumes nothing.
-use mathlib.Core.Path.{_≡_, refl, sym, ap, _∙_}
+use mathlib.Core.Path.{_≡_, refl, sym, ap, subst, _∙_}
 use mathlib.Core.Bool.{Bool, true, false, not}
 use mathlib.Core.List.{List, [], _∷_}
 use mathlib.Core.Logic.{_⊎_, _↔_, inl, inr}
@@ -10,7 +10,7 @@ use borrow.Author.Tests.{not-true, not-false}
 use Rattle.laws.specs.declared.Found.{Found}
 use Rattle.laws.specs.declared.Found.the-variants.{At, Nothing}
 use Rattle.laws.specs.Choice.{every}
-use Rattle.laws.specs.Search.{least, firstFailed, isFound}
+use Rattle.laws.specs.Search.{least, firstFailed, isFound, firstOf}
 use Rattle.laws.proofs.Choice.{le-or-lt, clash, every-at, every-build, every-fails}
 
 -- what a search among r, .., r + n - 1 answers: the least that passes, or nothing where none does
@@ -70,6 +70,63 @@ none-passes p r n e = go (least p r n) e (least-is p r n)
     go : (a : Found) → a ≡ Nothing → Searched p r n a → (y : ℕ) → r ≤ y → y < r + n → p y ≡ false
     go a q (hit v l u t z) y h k = let c : _≡_ {A = ℕ} 0 1 = cc in absurd (omega arith)
     go a q (miss z) y h k = z y h k
+
+-- Searches within a search: search i finds j, and no search before it finds anything.
+pub record FirstAt (search : ℕ → Found) (n i j : ℕ) : Type 0 where
+  pub below : i < n
+  pub found : search i ≡ At j
+  pub none-before : (k : ℕ) → k < i → search k ≡ Nothing
+
+abbrev pub NoneFinds : (ℕ → Found) → ℕ → Type 0
+NoneFinds search n = (k : ℕ) → k < n → search k ≡ Nothing
+
+not-found : (a : Found) → isFound a ≡ false → a ≡ Nothing
+not-found (At x) e = absurd (clash true refl e)
+not-found Nothing e = refl
+
+module _ {A : Type 0} (make : ℕ → ℕ → A) (none : A) (search : ℕ → Found) (n : ℕ) where
+  abbrev finds : ℕ → Bool
+  finds k = isFound (search k)
+
+  -- what is first is what the definition makes
+  pub first-at : (i j : ℕ) → FirstAt search n i j → make i j ≡ firstOf make none search n
+  unfolding firstOf
+  first-at i j f =
+      rw (
+        ← is-least finds 0 n (At i)
+            (hit i (omega arith) (omega (arith, f .below)) (rw (f .found)) (λ k a b. rw (f .none-before k b))),
+        f .found,
+      )
+
+  pub first-none : NoneFinds search n → none ≡ firstOf make none search n
+  unfolding firstOf
+  first-none f = rw (← is-least finds 0 n Nothing (miss (λ k a b. rw (f k (omega arith)))))
+
+  -- and what the definition makes is made of what is first, or of none
+  pub data First : A → Type 0 where
+    first : (i j : ℕ) → FirstAt search n i j → First (make i j)
+    nowhere : NoneFinds search n → First none
+
+  pub first-is : First (firstOf make none search n)
+  first-is = outer (least finds 0 n) refl
+    where
+      inner : (i : ℕ) (b : Found) → least finds 0 n ≡ At i → search i ≡ b → First (firstOf make none search n)
+      inner i Nothing e f = absurd (clash (finds i) (found-passes finds 0 n i e .0) (ap isFound f))
+      inner i (At j) e f =
+          let a : FirstAt search n i j =
+          record {
+            below = omega (arith, found-passes finds 0 n i e .2);
+            found = f;
+            none-before = λ k h. not-found (search k) (found-first finds 0 n i e k (omega arith) h);
+          } in
+          subst First (first-at i j a) (first i j a)
+
+      outer : (a : Found) → least finds 0 n ≡ a → First (firstOf make none search n)
+      outer (At i) e = inner i (search i) e refl
+      outer Nothing e =
+          let f : NoneFinds search n =
+          λ k h. not-found (search k) (none-passes finds 0 n e k (omega arith) (omega arith)) in
+          subst First (first-none f) (nowhere f)
 
 -- The first test of a list that fails. Past the list nothing fails, whatever stands there.
 inside : (bs : List Bool) (k : ℕ) (d e : Bool) → k < length bs → getD bs k d ≡ getD bs k e

@@ -22,6 +22,11 @@ unfoldable pub sumBelow : ℕ → (ℕ → ℕ) → ℕ
 sumBelow zero f = 0
 sumBelow (suc n) f = sumBelow n f + f n
 
+-- f 0, f 1, .., f (n - 1)
+unfoldable pub listed : {A : Type 0} → ℕ → (ℕ → A) → List A
+listed zero f = []
+listed (suc n) f = f 0 ∷ listed n (λ i. f (suc i))
+
 -- the marked row below n above which, by priority, no marked row stands
 unfoldable pub highest : ℕ → (ℕ → Bool) → (ℕ → ℕ) → Found
 highest n marked priority =

@@ -18,3 +18,14 @@ firstFailed bs = least (λ k. not (getD bs k true)) 0 (length bs)
 abbrev pub isFound : Found → Bool
 isFound (At x) = true
 isFound Nothing = false
+
+-- what is made of the number that a search found, or of none
+abbrev pub withFound : {A : Type 0} → (ℕ → A) → A → Found → A
+withFound make none (At x) = make x
+withFound make none Nothing = none
+
+-- The first of 0, .., n - 1 whose own search finds a number, and that number: what is made of the
+-- two, or of none.
+unfoldable pub firstOf : {A : Type 0} → (ℕ → ℕ → A) → A → (ℕ → Found) → ℕ → A
+firstOf make none search n =
+    withFound (λ i. withFound (make i) none (search i)) none (least (λ i. isFound (search i)) 0 n)

@@ -8,7 +8,7 @@ use Prim.Native.String.{String}
 use lib.ListN.{replicate}
 use Rattle.laws.specs.Choice.{every}
 use Rattle.laws.specs.Quoted.{bytes, lined}
-use Rattle.laws.specs.Search.{least, firstFailed}
+use Rattle.laws.specs.Search.{least, firstFailed, firstOf}
 use Rattle.laws.specs.RoundUp.{up}
 use Rattle.laws.specs.Rows.{allBelow, anyBelow, sumBelow, highest, anew}
 use Rattle.decimal.specs.Number.{areDigits, numberForm, isNumber, worthFrom, digitsIn, digits}
@@ -34,7 +34,7 @@ use Rattle.run.specs.Tick.{choose, advance, tickTaken, tickOf}
 use Rattle.run.specs.Events.{after, answers}
 use Rattle.run.specs.Count.{overAll, discardedOf}
 use Rattle.run.specs.Found.{takenTicks}
-use Rattle.run.specs.Example.{byMode, server, task, rows, example}
+use Rattle.table.specs.Example.{byMode, server, task, rows, example}
 use Rattle.lines.specs.EventLine.{releaseForm, tickForm as tickLineForm, eventSaid, eventLine, closedLines, eventLines}
 use Rattle.morning.specs.Numbers.{eventsIn, passedOver, rowFrom, longestRow, serverNumbers, taskNumbers}
 use Rattle.morning.specs.Numbers.{modeNumber}
@@ -74,7 +74,7 @@ lows =
 
 unfoldable computed : Unit {0}
 unfolding
-    every least firstFailed up allBelow anyBelow sumBelow highest anew areDigits numberForm isNumber worthFrom digitsIn
+    every least firstFailed firstOf up allBelow anyBelow sumBelow highest anew areDigits numberForm isNumber worthFrom digitsIn
     digits split join closed same tableOf tableKeeps keeps serverKeeps taskKeeps taskFault taskStands differ laterEqual
     firstPair tickWord serverWord taskWord eventWord timedWord loWord miWord hiWord tickForm serverForm
     taskForm fieldTests formTests lineBy lineOf readLine placed serverBounds taskBounds bounds serverWhole wholes fault standing grown

@@ -33,7 +33,7 @@ use Rattle.run.specs.declared.Answered.{Answered}
 use Rattle.run.specs.State.{waits, waitsFor}
 use Rattle.run.specs.Sound.{sound}
 use Rattle.run.specs.Answers.{charged}
-use Rattle.run.specs.Values.{modeValue}
+use Rattle.table.specs.Rows.{modeValue}
 use Rattle.run.specs.Tick.{settle, highestTask, choose, tickTaken}
 use Rattle.run.specs.Events.{eventOf}
 use Rattle.run.specs.Found.{TakenTick, tickTakenSo, takenBy, takenTicks, priorityFound, topPriority}

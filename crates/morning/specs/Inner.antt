@@ -16,7 +16,7 @@ use Rattle.run.specs.declared.Left.{Left}
 use Rattle.run.specs.declared.Left.the-variants.{Nobody, Done, Cut}
 use Rattle.run.specs.State.{waits}
 use Rattle.run.specs.Answers.{charged, finishedBy, cutBy}
-use Rattle.run.specs.Values.{modeValue}
+use Rattle.table.specs.Rows.{modeValue}
 use Rattle.run.specs.Found.{TakenTick, topPriority}
 use Rattle.morning.specs.Numbers.{emptyTurn, passedOver, longestWait, inThisMode}
 use Rattle.morning.specs.Numbers.{ServerNumbers, TaskNumbers}

@@ -19,7 +19,7 @@ use Rattle.run.specs.declared.EventLine.{EventLine}
 use Rattle.run.specs.declared.EventLine.the-variants.{Of, Another}
 use Rattle.run.specs.State.{waits, waitingAt}
 use Rattle.run.specs.Answers.{one, charged}
-use Rattle.run.specs.Values.{modeValue}
+use Rattle.table.specs.Rows.{modeValue}
 use Rattle.run.specs.Events.{after, answers}
 use Rattle.run.specs.Count.{overAll, finishedOf, cutOf, discardedOf}
 use Rattle.run.specs.Found.{TakenTick, takenTicks}

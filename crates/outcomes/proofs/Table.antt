@@ -9,6 +9,8 @@ use Rattle.table.proofs.in_mode
 use Rattle.table.proofs.largest_of
 use Rattle.table.proofs.is_low
 use Rattle.table.proofs.is_d2
+use Rattle.table.proofs.mode_value
+use Rattle.table.proofs.mode_said
 use Rattle.table.proofs.row_in
 use Rattle.table.proofs.rows_fault
 use Rattle.table.proofs.task_fault
@@ -39,6 +41,12 @@ is-low-settled = settled (λ κs a. tt) (λ κs a x y p q. (p ∙ sym q, refl))
 
 pub is-d2-settled : OneOutcome is_d2.Kinds.ps is_d2.Kinds.r is_d2.Reads.Asked is_d2.Reads.Learnt
 is-d2-settled = settled (λ κs a. tt) (λ κs a x y p q. (p ∙ sym q, refl))
+
+pub mode-value-settled : OneOutcome mode_value.Kinds.ps mode_value.Kinds.r mode_value.Reads.Asked mode_value.Reads.Learnt
+mode-value-settled = settled (λ κs a. tt) (λ κs a x y p q. (p ∙ sym q, refl))
+
+pub mode-said-settled : OneOutcome mode_said.Kinds.ps mode_said.Kinds.r mode_said.Reads.Asked mode_said.Reads.Learnt
+mode-said-settled = settled (λ κs a. tt) (λ κs a x y p q. (p ∙ sym q, refl))
 
 pub row-in-settled : OneOutcome row_in.Kinds.ps row_in.Kinds.r row_in.Reads.Asked row_in.Reads.Learnt
 row-in-settled = settled (λ κs a. tt) (λ κs a x y p q. (p ∙ sym q, refl))

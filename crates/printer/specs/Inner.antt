@@ -8,7 +8,8 @@ use Rattle.decimal.specs.Lines.{tab, lineFeed}
 use Rattle.run.specs.declared.Told.{Told}
 use Rattle.run.specs.declared.EventLine.{EventLine}
 use Rattle.run.specs.declared.TickAnswer.{TickAnswer}
-use Rattle.run.specs.Values.{modeSaid, turnSaid, leftSaid, lineSaid, toldSaid}
+use Rattle.table.specs.Rows.{modeSaid}
+use Rattle.run.specs.Values.{turnSaid, leftSaid, lineSaid, toldSaid}
 use Rattle.printer.specs.declared.LineValues.{LineValues}
 use Rattle.printer.specs.declared.ToldValues.{ToldValues}
 

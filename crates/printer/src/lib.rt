@@ -209,7 +209,7 @@ fn store_tick(v: ToldValues, room: &mut [u8], at: usize) -> usize
         ⌜ Stores (restStored (tickFields (tickSaid v))) outcomeBytes
         (now (room .entry)) at (now (room .exit)) r ⌝ }
 {
-    let mode = said::mode_said(v.mode);
+    let mode = table::mode_said(v.mode);
     let turn = said::turn_said(v.turn, v.server, v.task);
     let left = said::left_said(v.left, v.leaver);
     let a = store_field(v.number, room, at);

@@ -1,25 +1,12 @@
-// What plain numbers say of a tick: the mode, what the tick says, and how a job left.
+// What plain numbers say of a tick: what it says, and how a job left.
 // (Rattle.run.specs.Values.)
 
 use run::Event;
 use run::EventLine;
 use run::Left;
 use run::Turn;
-use table::Mode;
 ghost use mathlib.Core.Path.{_≡_};
-ghost use Rattle.run.specs.Values.{modeSaid, turnSaid, leftSaid, lineSaid};
-
-pub(crate) fn mode_said(m: u64) -> Mode
-    ensures { λ r. ⌜ r ≡ modeSaid m ⌝ }
-{
-    if m == 0 {
-        return Mode::N;
-    }
-    if m == 1 {
-        return Mode::D1;
-    }
-    Mode::D2
-}
+ghost use Rattle.run.specs.Values.{turnSaid, leftSaid, lineSaid};
 
 pub(crate) fn turn_said(w: u64, server: u64, task: u64) -> Turn
     ensures { λ r. ⌜ r ≡ turnSaid w server task ⌝ }

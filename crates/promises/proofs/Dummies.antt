@@ -19,7 +19,7 @@ use Rattle.run.specs.declared.Answered.{Answered}
 use Rattle.run.specs.Answers.{noOf, charged}
 use Rattle.run.specs.Release.{freshRun}
 use Rattle.run.specs.Tick.{tickOf}
-use Rattle.run.specs.Example.{example}
+use Rattle.table.specs.Example.{example}
 use Rattle.promises.specs.Example.{exampleText, two}
 use Rattle.run.proofs.Shape.{RunShaped, fresh-run-shaped, event-run-shaped}
 use Rattle.promises.specs.Condition2.{RunSized, OneTick, ByTheRules}

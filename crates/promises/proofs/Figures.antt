@@ -2,7 +2,7 @@
 use mathlib.Core.Path.{_≡_, refl}
 use Rattle.laws.specs.Quoted.{lined}
 use Rattle.text.specs.Read.{read, shown}
-use Rattle.run.specs.Example.{example}
+use Rattle.table.specs.Example.{example}
 use Rattle.promises.specs.Example.{exampleText}
 use Rattle.promises.specs.Figures.{AllHold, figures}
 use Rattle.promises.proofs.Opened.{opened}

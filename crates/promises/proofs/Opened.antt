@@ -1,6 +1,6 @@
 -- Every definition that a figure computes with, under one name.
 use Rattle.laws.specs.Choice.{every}
-use Rattle.laws.specs.Search.{least, firstFailed}
+use Rattle.laws.specs.Search.{least, firstFailed, firstOf}
 use Rattle.laws.specs.RoundUp.{up}
 use Rattle.laws.specs.Rows.{allBelow, anyBelow, sumBelow, highest, anew}
 use Rattle.decimal.specs.Number.{areDigits, numberForm, isNumber, worthFrom, digitsIn, digits}
@@ -21,12 +21,12 @@ use Rattle.run.specs.Tick.{advance, tickTaken, tickOf}
 use Rattle.run.specs.Events.{after, answers}
 use Rattle.lines.specs.EventLine.{releaseForm, tickForm as tickLineForm, eventSaid, eventLine, closedLines, eventLines}
 use Rattle.lines.specs.Night.{answerLines, nightLines, night}
-use Rattle.run.specs.Example.{example}
+use Rattle.table.specs.Example.{example}
 use Rattle.promises.specs.Example.{two}
 
 unfoldable pub opened : Unit {0}
 unfolding
-    every least firstFailed up allBelow anyBelow sumBelow highest anew areDigits numberForm isNumber worthFrom digitsIn
+    every least firstFailed firstOf up allBelow anyBelow sumBelow highest anew areDigits numberForm isNumber worthFrom digitsIn
     digits split join closed same tableOf tableKeeps keeps serverKeeps taskKeeps taskFault taskStands differ laterEqual
     firstPair tickWord serverWord taskWord eventWord timedWord loWord miWord hiWord tickForm serverForm
     taskForm fieldTests formTests lineBy lineOf readLine placed serverBounds taskBounds bounds serverWhole wholes fault standing grown compared ended readFrom read shown verdictOf responseAt meets interference waits someWaits

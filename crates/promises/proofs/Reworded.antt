@@ -31,7 +31,7 @@ use Rattle.run.specs.Release.{freshRun}
 use Rattle.run.specs.Tick.{tickOf}
 use Rattle.run.specs.Events.{after, answers}
 use Rattle.run.specs.Count.{overAll, releasedIn, finishedIn, cutIn}
-use Rattle.run.specs.Example.{example}
+use Rattle.table.specs.Example.{example}
 use Rattle.run.proofs.Shape.{fresh-run-shaped}
 use Rattle.run.proofs.Cases.{tight, levels}
 use Rattle.promises.specs.Example.{two}

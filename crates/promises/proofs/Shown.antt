@@ -19,7 +19,7 @@ use Rattle.run.specs.declared.Turn.the-variants.{Run as Ran, Empty}
 use Rattle.run.specs.declared.Event.{Event}
 use Rattle.run.specs.declared.Event.the-variants.{Release, Tick}
 use Rattle.run.specs.Release.{freshRun}
-use Rattle.run.specs.Example.{byMode, server, task, rows, example}
+use Rattle.table.specs.Example.{byMode, server, task, rows, example}
 use Rattle.run.specs.Found.{TakenTick, takenTicks}
 use Rattle.promises.specs.Bounds.{inRow, charges, largestCapacity, touched, normal, wholePeriod}
 use Rattle.promises.specs.Bounds.{waitsUntil}

@@ -7,7 +7,7 @@ use Rattle.table.specs.declared.Kind.the-variants.{Timed}
 use Rattle.table.specs.declared.Level.the-variants.{HI}
 use Rattle.table.specs.declared.Table.{Table}
 use Rattle.table.specs.Rows.{tableOf}
-use Rattle.run.specs.Example.{byMode, server, task, rows}
+use Rattle.table.specs.Example.{byMode, server, task, rows}
 
 abbrev pub exampleText : List String
 exampleText =

@@ -19,7 +19,7 @@ use Rattle.run.specs.Answers.{noOf}
 use Rattle.run.specs.Release.{freshRun}
 use Rattle.run.specs.Events.{answers}
 use Rattle.lines.specs.Night.{night}
-use Rattle.run.specs.Example.{example}
+use Rattle.table.specs.Example.{example}
 use Rattle.promises.specs.Example.{exampleText, two}
 
 pub data Figure : Type 0 where

@@ -10,6 +10,7 @@ use run::TOLD_SERVER;
 use run::TOLD_TASK;
 use run::TOLD_VALUES;
 use run::TOLD_WHAT;
+use table::MODES;
 use table::SERVERS;
 use table::TASKS;
 ghost use mathlib.Core.Path.{_≡_};
@@ -42,9 +43,6 @@ pub(crate) const CUT: usize = TASKS;
 pub(crate) const DISCARDED: usize = 2 * TASKS;
 
 pub(crate) const TASK_COUNTS: usize = 3 * TASKS;
-
-// The ticks of N, D1 and D2.
-pub(crate) const MODES: usize = 3;
 
 fn one_if(b: bool) -> u32
     ensures { λ r. ⌜ (r ≡ oneIf b) × (r ≤ 1) ⌝ }

@@ -6,7 +6,6 @@
 mod count;
 mod page;
 
-use count::MODES;
 use count::SERVER_COUNTS;
 use count::TASK_COUNTS;
 use files::How;
@@ -18,6 +17,7 @@ use run::FOUND_VALUES;
 use run::LINE_VALUES;
 use run::Run;
 use run::TOLD_VALUES;
+use table::MODES;
 use text::Reading;
 ghost use mathlib.Core.Path.{_≡_};
 ghost use mathlib.Core.Bool.{true, false};

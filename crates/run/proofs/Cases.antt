@@ -34,7 +34,7 @@ use Rattle.run.specs.Release.{freshRun, releaseOf}
 use Rattle.run.specs.Tick.{raises, judge, step1, drops, discards, step2, step3, step4, settle, able, highestAble, highestTask}
 use Rattle.run.specs.Tick.{choose, advance, tickTaken, tickOf}
 use Rattle.run.specs.Events.{eventOf, after, answers}
-use Rattle.run.specs.Example.{byMode, server, task, rows, example}
+use Rattle.table.specs.Example.{byMode, server, task, rows, example}
 
 -- an event handed in with a state of the example: its number
 abbrev noIn : State → Event → ℕ

@@ -10,7 +10,7 @@ use lib.ListN.{length, getD, drop, length-append}
 use lib.Seq.{getD-drop, drop-append-seam, drop-append-add}
 use Rattle.units.specs.declared.Ticks.{Ticks}
 use Rattle.table.specs.declared.Mode.{Mode}
-use Rattle.table.specs.declared.Mode.the-variants.{N, D1, D2}
+use Rattle.table.proofs.Rows.{mode-back}
 use Rattle.run.specs.declared.Turn.{Turn}
 use Rattle.run.specs.declared.Turn.the-variants.{Run as Ran, Empty, Idle}
 use Rattle.run.specs.declared.Left.{Left}
@@ -20,14 +20,8 @@ use Rattle.run.specs.declared.EventLine.{EventLine}
 use Rattle.run.specs.declared.EventLine.the-variants.{Of, Another}
 use Rattle.run.specs.declared.Told.{Told}
 use Rattle.run.specs.declared.Told.the-variants.{No, Released, Ticked}
-use Rattle.run.specs.Values.{lineValues, allLineValues, lineSaid, linesSaid, modeValue, modeSaid, toldValues, toldSaid}
+use Rattle.run.specs.Values.{lineValues, allLineValues, lineSaid, linesSaid, toldValues, toldSaid}
 use Rattle.run.specs.Values.{toldAt}
-
--- The first number says the case: 0, 1, or another.
-pub others : (w : ℕ) → (w ≡ 0 → ⊥) → (w ≡ 1 → ⊥) → (x : ℕ) × (w ≡ suc (suc x))
-others zero h g = absurd (h refl)
-others (suc zero) h g = absurd (g refl)
-others (suc (suc x)) h g = (x, refl)
 
 -- An event line, of its two numbers.
 pub line-length : (l : EventLine) → length (lineValues l) ≡ 2
@@ -86,11 +80,6 @@ line-at (x ∷ (v ∷ xs)) (suc i) h =
     rw (f, e) (line-at xs i (omega arith))
 
 -- What is told, of its nine numbers.
-mode-back : (m : Mode) → modeSaid (modeValue m) ≡ m
-mode-back N = refl
-mode-back D1 = refl
-mode-back D2 = refl
-
 abbrev tickedOf : Ticks → Mode → Turn → Left → ℕ → Told
 tickedOf tick m turn left n =
     Ticked (record { tick = tick; mode = m; turn = turn; left = left; discarded = n })

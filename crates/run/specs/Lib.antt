@@ -8,4 +8,3 @@ pub mod Count
 pub mod Values
 pub mod Found
 pub mod Many
-pub mod Example

@@ -7,8 +7,7 @@ use Prim.Native.Nat.{ℕ, zero, suc, _+_}
 use lib.Dec.{eqb}
 use lib.ListN.{getD}
 use Rattle.laws.specs.Choice.{if_then_else_}
-use Rattle.table.specs.declared.Mode.{Mode}
-use Rattle.table.specs.declared.Mode.the-variants.{N, D1, D2}
+use Rattle.table.specs.Rows.{modeValue, modeSaid}
 use Rattle.table.specs.Refusals.{numberOf}
 use Rattle.run.specs.declared.Turn.{Turn}
 use Rattle.run.specs.declared.Turn.the-variants.{Run as Ran, Empty, Idle}
@@ -53,17 +52,6 @@ unfoldable pub linesSaid : List ℕ → List EventLine
 linesSaid [] = []
 linesSaid (x ∷ []) = []
 linesSaid (x ∷ (v ∷ xs)) = lineSaid x v ∷ linesSaid xs
-
--- The modes N, D1, D2 are 0, 1, 2.
-abbrev pub modeValue : Mode → ℕ
-modeValue N = 0
-modeValue D1 = 1
-modeValue D2 = 2
-
-abbrev pub modeSaid : ℕ → Mode
-modeSaid zero = N
-modeSaid (suc zero) = D1
-modeSaid (suc (suc x)) = D2
 
 -- what a taken tick says: 0 idle, 1 empty, 2 run; then server and task
 abbrev pub turnValues : Turn → List ℕ

@@ -23,7 +23,6 @@ use run::TOLD_VALUES;
 use run::Taking;
 use run::Told;
 use run::Turn;
-use table::Mode;
 use table::Refusal;
 use table::SERVERS;
 use table::TASKS;
@@ -31,7 +30,7 @@ ghost use mathlib.Core.Path.{_≡_};
 ghost use Prim.Native.Nat.{_+_, _*_, _/_, _≤_};
 ghost use lib.ListN.{length};
 ghost use lib.Seq.{paste};
-ghost use Rattle.run.specs.Values.{lineSaid, toldOf, modeValue, turnValues, leftValues, toldValues};
+ghost use Rattle.run.specs.Values.{lineSaid, toldOf, turnValues, leftValues, toldValues};
 ghost use Rattle.run.specs.Many.{manyOf, findOf};
 ghost use Rattle.scheduler.specs.Inner.Steps.{noneFound};
 ghost use Rattle.scheduler.specs.Inner.Events.{SomeRun};
@@ -71,16 +70,6 @@ fn told_of(a: Answer) -> Told
     }
 }
 
-fn mode_value(m: Mode) -> u64
-    ensures { λ r. ⌜ r ≡ modeValue m ⌝ }
-{
-    match m {
-        Mode::N => 0,
-        Mode::D1 => 1,
-        Mode::D2 => 2,
-    }
-}
-
 fn turn_values(turn: Turn) -> [u64; 3]
     ensures { λ r. ⌜ r ≡ turnValues turn ⌝ }
 {
@@ -112,7 +101,7 @@ fn told_values(x: Told) -> [u64; TOLD_VALUES]
             let mode = a.mode;
             let turn = a.turn;
             let left = a.left;
-            let m = mode_value(mode);
+            let m = table::mode_value(mode);
             let w = turn_values(turn);
             let l = left_values(left);
             [

@@ -1,7 +1,7 @@
 -- The first pair of equal priorities: what it is, that nothing else is it, and that there is none exactly where all differ.
 -- Each of the two searches has one answer, and nested loops over the rows find it. Assumes nothing.
 use mathlib.Core.Path.{_≡_, refl, sym, ap, _∙_}
-use mathlib.Core.Bool.{true, false, not}
+use mathlib.Core.Bool.{true, not}
 use mathlib.Core.Logic.{inl, inr}
 use mathlib.Core.List.{List}
 use Prim.Native.Nat.{ℕ, suc, _+_, _-_, _≤_, _<_, min}
@@ -11,16 +11,16 @@ use lib.ListN.{length, getD, take, length-take}
 use lib.Seq.{getD-take}
 use borrow.Author.Count.{below-more}
 use borrow.Author.Tests.{eqb-true, eqb-false, eq-eqb, ne-eqb}
-use Rattle.laws.specs.declared.Found.{Found}
 use Rattle.laws.specs.declared.Found.the-variants.{At, Nothing}
-use Rattle.laws.specs.Search.{least, isFound}
+use Rattle.laws.specs.Search.{firstOf}
 use Rattle.laws.specs.Rows.{allBelow}
 use Rattle.laws.proofs.Choice.{clash, is-false, le-or-lt}
 use Rattle.laws.proofs.Search.{hit, miss, is-least, found-passes, found-first, none-passes}
+use Rattle.laws.proofs.Search.{First, first, nowhere, first-at, first-none, first-is}
 use Rattle.laws.proofs.Rows.{all-at, all-build}
 use Rattle.table.specs.declared.Pair.{Pair}
 use Rattle.table.specs.declared.Pair.the-variants.{Equal, Differ}
-use Rattle.table.specs.Pairs.{laterEqual, withLater, withFirst, firstPair, isDiffer}
+use Rattle.table.specs.Pairs.{laterEqual, firstPair, isDiffer}
 use Rattle.table.specs.Rules.{differ}
 
 -- no two rows below n are equal
@@ -38,10 +38,6 @@ pub record IsFirst (n : ℕ) (p : ℕ → ℕ) (i j : ℕ) : Type 0 where
 abbrev pub Paired : ℕ → (ℕ → ℕ) → Pair → Type 0
 Paired n p (Equal i j) = IsFirst n p i j
 Paired n p Differ = AllDiffer n p
-
-not-found : (a : Found) → isFound a ≡ false → a ≡ Nothing
-not-found (At x) e = absurd (clash true refl e)
-not-found Nothing e = refl
 
 no-later : (n : ℕ) (p : ℕ → ℕ) (i : ℕ) → ((j : ℕ) → i < j → j < n → p i ≡ p j → ⊥) → laterEqual n p i ≡ Nothing
 unfolding laterEqual
@@ -84,38 +80,30 @@ later-none n p i e j h k =
 pub is-pair : (n : ℕ) (p : ℕ → ℕ) (a : Pair) → Paired n p a → a ≡ firstPair n p
 unfolding firstPair
 is-pair n p (Equal i j) f =
-    rw (
-      ← is-least (λ k. isFound (laterEqual n p k)) 0 n (At i)
-          (hit i (omega arith) (omega (arith, f .ordered, f .below)) (rw (a-later n p i j f))
-          (λ y a b. rw (no-later n p y (λ k h l. f .rows y k b h l)))),
-      a-later n p i j f,
-    )
-is-pair n p Differ f =
-    rw (← is-least (λ k. isFound (laterEqual n p k)) 0 n Nothing (miss (λ y a b. rw (no-later n p y (f y)))))
+    first-at Equal Differ (laterEqual n p) n i j
+    (record {
+      below = omega (arith, f .ordered, f .below);
+      found = a-later n p i j f;
+      none-before = λ k h. no-later n p k (λ b l u. f .rows k b h l u);
+    })
+is-pair n p Differ f = first-none Equal Differ (laterEqual n p) n (λ k h. no-later n p k (f k))
 
 -- and what the definition says is one
 pub pair-is : (n : ℕ) (p : ℕ → ℕ) → Paired n p (firstPair n p)
 unfolding firstPair
-pair-is n p = go (least (λ i. isFound (laterEqual n p i)) 0 n) refl
+pair-is n p = go (firstOf Equal Differ (laterEqual n p) n) (first-is Equal Differ (laterEqual n p) n)
   where
-    earlier : (i : ℕ) → least (λ k. isFound (laterEqual n p k)) 0 n ≡ At i → (a b : ℕ) → a < i → a < b → b < n → p a ≡ p b → ⊥
-    earlier i e a b h =
-        later-none n p a (not-found (laterEqual n p a) (found-first (λ k. isFound (laterEqual n p k)) 0 n i e a (omega arith) h)) b
-
-    row : (i : ℕ) (b : Found) → least (λ k. isFound (laterEqual n p k)) 0 n ≡ At i → laterEqual n p i ≡ b → isFound b ≡ true → Paired n p (withLater i b)
-    row i Nothing e f g = absurd (clash false g refl)
-    row i (At j) e f g =
-        let l = later-found n p i j f in
-        record { ordered = l .0; below = l .1; equal = l .2; rows = earlier i e; row = later-first n p i j f }
-
-    go : (a : Found) → least (λ k. isFound (laterEqual n p k)) 0 n ≡ a → Paired n p (withFirst (laterEqual n p) a)
-    go Nothing e =
-        λ i j h k.
-        later-none n p i
-        (not-found (laterEqual n p i) (none-passes (λ m. isFound (laterEqual n p m)) 0 n e i (omega arith) (omega arith)))
-        j h k
-    go (At i) e =
-        row i (laterEqual n p i) e refl (found-passes (λ m. isFound (laterEqual n p m)) 0 n i e .0)
+    go : (a : Pair) → First Equal Differ (laterEqual n p) n a → Paired n p a
+    go a (first i j f) =
+        let l = later-found n p i j (f .found) in
+        record {
+          ordered = l .0;
+          below = l .1;
+          equal = l .2;
+          rows = λ k b h. later-none n p k (f .none-before k h) b;
+          row = later-first n p i j (f .found);
+        }
+    go a (nowhere f) = λ i j h k. later-none n p i (f i (omega arith)) j h k
 
 -- the pair that is found is equal, ordered and first
 pub pair-found : (n : ℕ) (p : ℕ → ℕ) (i j : ℕ) → firstPair n p ≡ Equal i j → IsFirst n p i j

@@ -244,6 +244,9 @@ servers-held : (t : Table) → tableKeeps t ≡ true → within 1 32 (t .nserver
 unfolding tableKeeps
 servers-held t e = and-left (within 1 32 (t .nservers)) (within 1 64 (t .ntasks) && keeps (rowsOf t)) e
 
+pub few-servers : (t : Table) → tableKeeps t ≡ true → t .nservers ≤ 32
+few-servers t e = within-high 1 32 (t .nservers) (servers-held t e)
+
 tasks-held : (t : Table) → tableKeeps t ≡ true → within 1 64 (t .ntasks) ≡ true
 unfolding tableKeeps
 tasks-held t e =
@@ -273,7 +276,7 @@ table-rules t z e =
     let n = servers-held t e in
     let m = tasks-held t e in
     let a = tests (rowsOf t) (rows-keep t e) in
-    let l : t .nservers ≤ length (t .servers) = omega (arith, z .servers, within-high 1 32 (t .nservers) n) in
+    let l : t .nservers ≤ length (t .servers) = omega (arith, z .servers, few-servers t e) in
     let o : t .ntasks ≤ length (t .tasks) = omega (arith, z .tasks, within-high 1 64 (t .ntasks) m) in
     let keeps-row = taskStands (take (t .nservers) (t .servers)) in
     let p = all-in-use (λ s. every (serverKeeps s)) noServer (t .servers) (t .nservers) l ∙
@@ -281,7 +284,7 @@ table-rules t z e =
     let q = all-in-use keeps-row noTask (t .tasks) (t .ntasks) o ∙ a .tasks in
     record {
       servers-low = within-low 1 32 (t .nservers) n;
-      servers-high = within-high 1 32 (t .nservers) n;
+      servers-high = few-servers t e;
       tasks-low = within-low 1 64 (t .ntasks) m;
       tasks-high = within-high 1 64 (t .ntasks) m;
       tick-low = within-low 1 10000 (t .tick .0) (a .tick);

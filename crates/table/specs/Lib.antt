@@ -3,3 +3,4 @@ pub mod Rows
 pub mod Rules
 pub mod Pairs
 pub mod Inner
+pub mod Example

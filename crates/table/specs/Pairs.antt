@@ -6,8 +6,7 @@ use Prim.Native.Nat.{ℕ, suc, _-_}
 use lib.Dec.{eqb}
 use lib.ListN.{length, getD}
 use Rattle.laws.specs.declared.Found.{Found}
-use Rattle.laws.specs.declared.Found.the-variants.{At, Nothing}
-use Rattle.laws.specs.Search.{least, isFound}
+use Rattle.laws.specs.Search.{least, firstOf}
 use Rattle.table.specs.declared.Server.{Server}
 use Rattle.table.specs.declared.Task.{Task}
 use Rattle.table.specs.declared.Pair.{Pair}
@@ -18,17 +17,9 @@ use Rattle.table.specs.Rows.{noServer, noTask}
 unfoldable pub laterEqual : ℕ → (ℕ → ℕ) → ℕ → Found
 laterEqual n priority i = least (λ j. eqb (priority i) (priority j)) (suc i) (n - suc i)
 
-abbrev pub withLater : ℕ → Found → Pair
-withLater i (At j) = Equal i j
-withLater i Nothing = Differ
-
-abbrev pub withFirst : (ℕ → Found) → Found → Pair
-withFirst later (At i) = withLater i (later i)
-withFirst later Nothing = Differ
-
 -- the first row that a later one equals, with the first that does
 unfoldable pub firstPair : ℕ → (ℕ → ℕ) → Pair
-firstPair n priority = withFirst (laterEqual n priority) (least (λ i. isFound (laterEqual n priority i)) 0 n)
+firstPair n priority = firstOf Equal Differ (laterEqual n priority) n
 
 abbrev pub equalServers : List Server → Pair
 equalServers ss = firstPair (length ss) (λ i. getD ss i noServer .priority)

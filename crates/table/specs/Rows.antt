@@ -2,7 +2,7 @@
 -- use."
 use mathlib.Core.Bool.{Bool, true, false}
 use mathlib.Core.List.{List, [], _++_}
-use Prim.Native.Nat.{ℕ, _-_}
+use Prim.Native.Nat.{ℕ, zero, suc, _-_}
 use lib.ListN.{length, getD, take, replicate}
 use Rattle.laws.specs.Choice.{larger}
 use Rattle.units.specs.declared.Ticks.{Ticks}
@@ -31,6 +31,17 @@ abbrev pub isD2 : Mode → Bool
 isD2 N = false
 isD2 D1 = false
 isD2 D2 = true
+
+-- "in the order N, D1, D2": they are 0, 1, 2
+abbrev pub modeValue : Mode → ℕ
+modeValue N = 0
+modeValue D1 = 1
+modeValue D2 = 2
+
+abbrev pub modeSaid : ℕ → Mode
+modeSaid zero = N
+modeSaid (suc zero) = D1
+modeSaid (suc (suc x)) = D2
 
 -- what a row that holds nothing holds
 abbrev pub noTicks : ByMode

@@ -8,7 +8,7 @@ ghost use lib.ListN.{take};
 ghost use Prim.Native.Nat.{_≤_, min};
 ghost use Rattle.laws.specs.Choice.{every};
 ghost use Rattle.table.specs.Refusals.{numberOf, isKept};
-ghost use Rattle.table.specs.Rows.{inMode, largest, isTimed, isLow, isD2, noTable};
+ghost use Rattle.table.specs.Rows.{inMode, largest, isTimed, isLow, isD2, modeValue, modeSaid, noTable};
 ghost use Rattle.table.specs.Rules.{serverKeeps, taskKeeps, taskFault, taskStands, staysHome, tableKeeps};
 ghost use Rattle.table.specs.Inner.{placeIn, rowsFault, serversKeep, tasksKeep};
 ghost use Rattle.table.specs.Pairs.{isDiffer, equalServers, equalTasks};
@@ -17,6 +17,8 @@ ghost use Rattle.table.specs.Pairs.{isDiffer, equalServers, equalTasks};
 pub const SERVERS: usize = 32;
 
 pub const TASKS: usize = 64;
+
+pub const MODES: usize = 3;
 
 pub enum Kind {
     Event,
@@ -276,6 +278,29 @@ pub fn is_d2(m: Mode) -> bool
         Mode::D1 => false,
         Mode::D2 => true,
     }
+}
+
+// The modes in their order, as numbers: 0, 1, 2.
+pub fn mode_value(m: Mode) -> u64
+    ensures { λ r. ⌜ r ≡ modeValue m ⌝ }
+{
+    match m {
+        Mode::N => 0,
+        Mode::D1 => 1,
+        Mode::D2 => 2,
+    }
+}
+
+pub fn mode_said(m: u64) -> Mode
+    ensures { λ r. ⌜ r ≡ modeSaid m ⌝ }
+{
+    if m == 0 {
+        return Mode::N;
+    }
+    if m == 1 {
+        return Mode::D1;
+    }
+    Mode::D2
 }
 
 // Whether a task of a timed home has it for its degraded server too; of an event home it may have

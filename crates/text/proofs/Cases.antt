@@ -7,7 +7,7 @@ use Prim.Native.Nat.{ℕ}
 use Prim.Native.String.{String}
 use lib.ListN.{length, replicate}
 use Rattle.laws.specs.Choice.{every}
-use Rattle.laws.specs.Search.{least, firstFailed}
+use Rattle.laws.specs.Search.{least, firstFailed, firstOf}
 use Rattle.laws.specs.RoundUp.{up}
 use Rattle.laws.specs.Quoted.{bytes, lined}
 use Rattle.laws.specs.Rows.{allBelow}
@@ -26,7 +26,7 @@ use Rattle.text.specs.Write.{serverLines, taskLines, linesOf, write, wro
 
 unfoldable computed : Unit {0}
 unfolding
-    every least firstFailed up allBelow areDigits numberForm isNumber worthFrom digitsIn digits split join closed same tableOf
+    every least firstFailed firstOf up allBelow areDigits numberForm isNumber worthFrom digitsIn digits split join closed same tableOf
     tableKeeps keeps serverKeeps taskKeeps taskFault taskStands differ laterEqual firstPair tickWord serverWord
     taskWord eventWord timedWord loWord miWord hiWord tickForm serverForm taskForm fieldTests formTests lineBy lineOf readLine
     fieldsOf writeLine placed serverBounds taskBounds bounds serverWhole wholes fault standing grown compared

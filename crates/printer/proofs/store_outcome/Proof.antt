@@ -2,7 +2,7 @@
 -- tell. Assumes nothing.
 use native.Mathlib.Omega.{arith}
 use Rattle.run.specs.Values.{toldSaid}
-use Rattle.run.proofs.Values.{others}
+use Rattle.laws.proofs.Choice.{others}
 use Rattle.printer.proofs.Inner.{at-most, then}
 use borrow.Author.Needs.{needs}
 use Rattle.printer.proofs.store_outcome.Statement.{statement}

@@ -17,8 +17,6 @@ use borrow.Author.Tests.{eqb-true, eqb-false, ne-eqb, lt-ltb}
 use Rattle.laws.specs.Choice.{if_then_else_, larger, oneIf}
 use Rattle.laws.proofs.Choice.{clash, if-ind}
 use Rattle.laws.proofs.Rows.{sum-part}
-use Rattle.table.specs.declared.Mode.{Mode}
-use Rattle.table.specs.declared.Mode.the-variants.{N, D1, D2}
 use Rattle.table.specs.declared.Table.{Table}
 use Rattle.run.specs.declared.Turn.{Turn}
 use Rattle.run.specs.declared.Turn.the-variants.{Run as Ran, Empty, Idle}
@@ -28,7 +26,9 @@ use Rattle.run.specs.declared.TickAnswer.{TickAnswer}
 use Rattle.run.specs.declared.Told.the-variants.{Ticked}
 use Rattle.run.specs.State.{waits}
 use Rattle.run.specs.Answers.{one, charged, finishedBy, cutBy}
-use Rattle.run.specs.Values.{modeValue, turnValues, leftValues, toldValues}
+use Rattle.table.specs.Rows.{modeValue}
+use Rattle.table.proofs.Rows.{mode-below}
+use Rattle.run.specs.Values.{turnValues, leftValues, toldValues}
 use Rattle.run.specs.Found.{TakenTick, foundValues, allFound, allTold}
 use Rattle.run.proofs.Steps.{set-at, set-past, one-here, one-past, same-or-not}
 use Rattle.run.proofs.Tick.{charged-le}
@@ -229,11 +229,6 @@ tells a xs e =
       task = ap (λ (l : List ℕ). getD l 7 0) f;
       discarded = ap (λ (l : List ℕ). getD l 8 0) f;
     }
-
-mode-below : (m : Mode) → modeValue m < 3
-mode-below N = omega arith
-mode-below D1 = omega arith
-mode-below D2 = omega arith
 
 -- the rows told are rows of the arrays, and those counted are in use
 server-below : (n : ℕ) (u : Turn) → n ≤ 32 → ServerBelow n u → serverOf u < 32

@@ -7,15 +7,14 @@ use Prim.Native.Nat.{ℕ, zero, suc, _+_, _≤_, _^_, _<_}
 use native.Mathlib.Omega.{arith}
 use native.Mathlib.Numerals.{add-one}
 use native.Mathlib.Nat.{zero-add}
-use lib.ListN.{length, getD, take, drop, length-append}
-use lib.Seq.{take-at}
+use lib.ListN.{length, getD, take, length-append}
 use Rattle.laws.specs.Quoted.{bytes}
 use Rattle.decimal.specs.Number.{digits}
 use Rattle.decimal.specs.Lines.{tab, lineFeed, join, closed}
 use Rattle.decimal.specs.Room.{Put}
 use Rattle.decimal.proofs.Numbers.{digits-length}
 use Rattle.decimal.proofs.Lines.{AllUpTo, join-length, closed-append}
-use Rattle.decimal.proofs.Room.{put-none, put-as, put-more, put-fits, put-lines}
+use Rattle.decimal.proofs.Room.{put-none, put-as, put-more, put-front, put-lines}
 use Rattle.lines.specs.AnswerLine.{printed}
 use Rattle.morning.specs.Page.{rowLines, pageLines}
 use Rattle.report.specs.Inner.Page.{FieldPut, LinesPut, serverLineIn, taskLineIn}
@@ -141,7 +140,7 @@ pub page-put : (nservers ntasks : ℕ) (xs ys waiting zs : List ℕ) {d : List �
     LinesPut (modeLinesIn zs) e2 k2 e3 r →
     take r e3 ≡ closed (pageIn nservers ntasks xs ys waiting zs)
 unfolding pageLines
-page-put nservers ntasks xs ys waiting zs {d = d} {e3 = e3} {r = r} hs ht long p q m =
+page-put nservers ntasks xs ys waiting zs {d = d} hs ht long p q m =
     let ss = serverLinesIn nservers xs in
     let ts = taskLinesIn ntasks ys waiting in
     let ms = modeLinesIn zs in
@@ -155,7 +154,4 @@ page-put nservers ntasks xs ys waiting zs {d = d} {e3 = e3} {r = r} hs ht long p
       rows-many (serverLineIn xs) nservers,
       rows-many (taskLineIn ys waiting) ntasks,
     ) in
-    let fits : 0 + length page ≤ length d = omega (arith, all .short) in
-    let whole = put-fits page fits (all .put) in
-    let size : length page ≡ r = omega (arith, whole .1) in
-    ap (take r) (whole .0) ∙ take-at page (drop (0 + length page) d) r size
+    put-front page (omega (arith, all .short)) (all .put)

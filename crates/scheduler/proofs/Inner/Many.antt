@@ -25,7 +25,8 @@ use Rattle.run.specs.declared.Told.the-variants.{No, Released, Ticked}
 use Rattle.run.specs.declared.Turn.{Turn}
 use Rattle.run.specs.declared.Turn.the-variants.{Run as Ran, Empty, Idle}
 use Rattle.run.specs.Sound.{sound}
-use Rattle.run.specs.Values.{lineSaid, linesSaid, modeValue, turnValues, leftValues, toldValues}
+use Rattle.table.specs.Rows.{modeValue}
+use Rattle.run.specs.Values.{lineSaid, linesSaid, turnValues, leftValues, toldValues}
 use Rattle.run.specs.Found.{TakenTick, foundValues, allFound, allTold}
 use Rattle.run.specs.Many.{toldTo, afterLine, toldToAll, afterLines, allValues, untaken, taken, manyOf}
 use Rattle.run.specs.Many.{ticksAt, ticksAmong, unfound, takenFinding, findOf}

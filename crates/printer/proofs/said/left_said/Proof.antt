@@ -1,5 +1,5 @@
 -- `printer::said::left_said` meets its contract: how a job left, by its numbers. Assumes nothing.
-use Rattle.run.proofs.Values.{others}
+use Rattle.laws.proofs.Choice.{others}
 use Rattle.printer.proofs.said.left_said.Statement.{statement}
 use Rattle.printer.proofs.said.left_said.Tie as tie
 

@@ -1,5 +1,5 @@
 -- `printer::said::line_said` meets its contract: the line that two numbers say. Assumes nothing.
-use Rattle.run.proofs.Values.{others}
+use Rattle.laws.proofs.Choice.{others}
 use Rattle.printer.proofs.said.line_said.Statement.{statement}
 use Rattle.printer.proofs.said.line_said.Tie as tie
 

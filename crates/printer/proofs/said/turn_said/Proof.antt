@@ -1,5 +1,5 @@
 -- `printer::said::turn_said` meets its contract: what a tick says, by its numbers. Assumes nothing.
-use Rattle.run.proofs.Values.{others}
+use Rattle.laws.proofs.Choice.{others}
 use Rattle.printer.proofs.said.turn_said.Statement.{statement}
 use Rattle.printer.proofs.said.turn_said.Tie as tie
 

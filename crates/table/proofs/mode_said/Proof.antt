@@ -1,7 +1,7 @@
--- `printer::said::mode_said` meets its contract: the mode that a number says. Assumes nothing.
-use Rattle.run.proofs.Values.{others}
-use Rattle.printer.proofs.said.mode_said.Statement.{statement}
-use Rattle.printer.proofs.said.mode_said.Tie as tie
+-- `table::mode_said` meets its contract: the mode that a number says. Assumes nothing.
+use Rattle.laws.proofs.Choice.{others}
+use Rattle.table.proofs.mode_said.Statement.{statement}
+use Rattle.table.proofs.mode_said.Tie as tie
 
 returns : tie.Need-returns
 returns c = rw (c .if1 .taken)
