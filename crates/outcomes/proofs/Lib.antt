@@ -8,6 +8,7 @@ pub mod Verdict
 pub mod Run
 pub mod Lines
 pub mod Soundness
+pub mod Fitting
 pub mod Scheduler
 pub mod Serving
 pub mod Open

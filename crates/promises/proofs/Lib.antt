@@ -19,6 +19,7 @@ pub mod Condition2
 pub mod FromTheText
 pub mod RulesSettle
 pub mod AlarmMode
+pub mod Fits
 pub mod InUse
 pub mod Dummies
 pub mod Reworded

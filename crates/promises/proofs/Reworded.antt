@@ -1,22 +1,26 @@
--- Condition 2, and what request No. 4 comes to, with one of its words changed is false, each time by
--- a run that is computed. Assumes nothing.
+-- Condition 2, and what requests No. 4 and No. 5 come to, with one of its words changed is false,
+-- each time by a run or an answer that is computed. Assumes nothing.
 use mathlib.Core.Path.{_≡_, refl, ap}
 use mathlib.Core.Bool.{Bool, true, false}
 use mathlib.Core.List.{List, [], _∷_}
 use mathlib.Core.Logic.{_⊎_, inl, inr}
 use Prim.Native.Nat.{ℕ, _+_, _≤_, _<_}
 use native.Mathlib.Omega.{arith}
-use Rattle.laws.specs.Rows.{sumBelow}
+use borrow.Author.Count.{below-more}
+use Rattle.laws.specs.Rows.{sumBelow, listed}
 use Rattle.table.specs.declared.Kind.the-variants.{Timed}
 use Rattle.table.specs.declared.Mode.{Mode}
 use Rattle.table.specs.declared.Level.the-variants.{MI}
-use Rattle.table.specs.declared.Mode.the-variants.{N, D1}
+use Rattle.table.specs.declared.Mode.the-variants.{N, D1, D2}
 use Rattle.table.specs.declared.Table.{Table}
 use Rattle.table.specs.Inner.{Sized}
 use Rattle.table.specs.Rows.{taskAt, limitAt, capacityAt}
 use Rattle.table.specs.Rules.{tableKeeps}
-use Rattle.verdict.specs.declared.Verdict.the-variants.{Response}
+use Rattle.verdict.specs.declared.Verdict.the-variants.{Response, Misses}
+use Rattle.verdict.specs.declared.Fits.the-variants.{Yes, Miss}
 use Rattle.verdict.specs.Verdict.{interference, verdictOf}
+use Rattle.verdict.specs.Fits.{verdictsOf, isMiss, leastRow, fromVerdicts, fitsOf}
+use Rattle.verdict.proofs.Cases.{three}
 use Rattle.run.specs.declared.Last.the-variants.{Job}
 use Rattle.run.specs.declared.Run.{Run}
 use Rattle.run.specs.declared.Turn.the-variants.{Run as Ran}
@@ -30,18 +34,21 @@ use Rattle.run.specs.State.{waitingAt, runsAt}
 use Rattle.run.specs.Release.{freshRun}
 use Rattle.run.specs.Tick.{tickOf}
 use Rattle.run.specs.Events.{after, answers}
+use Rattle.run.specs.Found.{takenTicks}
 use Rattle.run.specs.Count.{overAll, releasedIn, finishedIn, cutIn}
-use Rattle.table.specs.Example.{example}
+use Rattle.table.specs.Example.{byMode, example}
 use Rattle.run.proofs.Shape.{fresh-run-shaped}
 use Rattle.run.proofs.Cases.{tight, levels}
 use Rattle.promises.specs.Example.{two}
 use Rattle.promises.specs.Condition2.{RunSized, LiesAbove}
 use Rattle.promises.specs.AlarmMode.{modeHeight, leftAs}
+use Rattle.promises.specs.Bounds.{normal, charges, waitsUntil}
+use Rattle.promises.specs.Fits.{EachServed}
 use Rattle.promises.proofs.Opened.{opened}
 use Rattle.promises.proofs.FromTheText.{reached-held}
 
 unfoldable computed : Unit {0}
-unfolding opened overAll tight levels
+unfolding opened overAll tight levels listed verdictsOf leastRow fromVerdicts fitsOf three
 computed = tt
 
 -- every tick that is taken, on a run that code holds
@@ -172,3 +179,35 @@ needs-cut-told f =
     let n = f (after (freshRun levels) es) 2 _ refl refl (λ u. let low : 0 < 0 = u in omega (arith, low)) refl in
     let z : _≡_ {A = ℕ} 1 0 = ap (λ (b : Answer). cutIn (b ∷ [])) n in
     omega (arith, z)
+
+-- Request No. 5. "the least row": of two rows that miss in a mode the later one is not named.
+pub needs-the-least-row :
+    ((t : Table) (m : Mode) (i j : ℕ) → fitsOf t ≡ Miss m i → i < j → verdictOf t j m ≡ Misses → ⊥) → ⊥
+unfolding computed
+needs-the-least-row f =
+    f (three Timed (byMode 1 2 2) (byMode 1 3 3) (byMode 1 1 1)) D1 1 2 refl (omega arith) refl
+
+-- "in any of the three modes": a table that misses in D2 alone does not fit.
+pub needs-every-mode :
+    ((t : Table) → tableKeeps t ≡ true → ((i : ℕ) → i < t .nservers → isMiss (verdictOf t i N) ≡ false) → fitsOf t ≡ Yes) →
+    ⊥
+unfolding computed
+needs-every-mode f =
+    let t = three Timed (byMode 1 1 2) (byMode 1 1 1) (byMode 1 1 2) in
+    let n : Miss D2 2 ≡ Yes =
+    f t refl (below-more (λ i. isMiss (verdictOf t i N) ≡ false) 2
+    (below-more (λ i. isMiss (verdictOf t i N) ≡ false) 1
+    (below-more (λ i. isMiss (verdictOf t i N) ≡ false) 0 (λ i h. absurd (omega arith)) refl) refl) refl) in
+    let z : _≡_ {A = ℕ} 0 1 = cc in
+    omega arith
+
+-- "if it fits": of P6's table row 1 is charged once in its first period of 6 ticks, and its capacity
+-- is 2.
+pub needs-a-table-that-fits :
+    ((t : Table) (es : List Event) → tableKeeps t ≡ true → EachServed t (takenTicks (freshRun t) es)) → ⊥
+unfolding computed normal charges waitsUntil takenTicks
+needs-a-table-that-fits f =
+    let t = two Timed 4 3 6 2 in
+    let es = Tick false ∷ Tick false ∷ Tick false ∷ Tick false ∷ Tick false ∷ Tick false ∷ [] in
+    let n : _≡_ {A = ℕ} 1 2 = f t es refl 1 0 6 2 (omega arith) refl refl (omega arith) refl refl refl .0 in
+    omega (arith, n)

@@ -4,6 +4,7 @@ pub mod Bounds
 pub mod Condition1
 pub mod Condition2
 pub mod AlarmMode
+pub mod Fits
 pub mod FromTheText
 pub mod Dummies
 pub mod InUse

@@ -22,6 +22,7 @@ use table::SERVERS;
 use table::TASKS;
 use table::Table;
 use text::Writing;
+use verdict::Fits;
 use verdict::Verdict;
 ghost use Prim.Native.Nat.{_≤_};
 
@@ -55,6 +56,14 @@ fn say_verdict(t: Table, row: usize, m: Mode) -> bool {
         Verdict::Response(r) => say_line(b"verdict", &[1, r.0 as u64]),
         Verdict::Misses => say_line(b"verdict", &[0, 0]),
         Verdict::No(why) => say_no(why),
+    }
+}
+
+fn say_fits(f: Fits) -> bool {
+    match f {
+        Fits::Yes => say_line(b"fits", &[1, 0, 0]),
+        Fits::Miss { mode, row } => say_line(b"fits", &[0, table::mode_value(mode), row as u64]),
+        Fits::No(why) => say_no(why),
     }
 }
 
@@ -96,14 +105,6 @@ fn say_written(t: Table, size: usize) -> bool {
     }
 }
 
-fn mode_number(m: Mode) -> u64 {
-    match m {
-        Mode::N => 0,
-        Mode::D1 => 1,
-        Mode::D2 => 2,
-    }
-}
-
 // How many of a state's rows are shown: those in use.
 fn shown(n: usize, most: usize) -> usize
     ensures { λ r. ⌜ r ≤ most ⌝ }
@@ -113,7 +114,7 @@ fn shown(n: usize, most: usize) -> usize
 
 fn put_head(s: State, room: &mut [u8], at: usize) -> usize {
     let m = s.mode;
-    let mode = mode_number(m);
+    let mode = table::mode_value(m);
     let last = s.last;
     let ticks = s.ticks.0 as u64;
     let accepted = s.accepted as u64;
@@ -201,7 +202,7 @@ fn left_task(left: Left) -> u64 {
 
 fn say_tick(a: TickAnswer, r: Run) -> bool {
     let m = a.mode;
-    let mode = mode_number(m);
+    let mode = table::mode_value(m);
     let turn = a.turn;
     let left = a.left;
     say_state(
@@ -249,6 +250,8 @@ pub(crate) fn say_answer(b: Block, asked: Operation) -> bool {
         Operation::Release(task) => say_answered(scheduler::release(r, task)),
         Operation::Tick(mark) => say_answered(scheduler::tick(r, mark)),
         Operation::Verdict(row, m) => say_verdict(t, row, m),
+        Operation::Fits => say_fits(verdict::fits_of(t)),
+        Operation::RunFits => say_fits(fitting::run_fits(r)),
         Operation::Write(size) => say_written(t, size),
         Operation::Nothing => true,
     }

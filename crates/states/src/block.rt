@@ -36,6 +36,8 @@ pub enum Operation {
     Release(usize),
     Tick(bool),
     Verdict(usize, Mode),
+    Fits,
+    RunFits,
     Write(usize),
     Nothing,
 }
@@ -46,14 +48,6 @@ fn narrow(v: u64) -> u32 {
 
 fn byte(v: u64) -> u8 {
     if v <= BYTE { v as u8 } else { 0 }
-}
-
-fn mode_of(v: u64) -> Mode {
-    match v {
-        0 => Mode::N,
-        1 => Mode::D1,
-        _ => Mode::D2,
-    }
 }
 
 fn kind_of(v: u64) -> Kind {
@@ -208,7 +202,13 @@ pub(crate) fn operation_in(word: &[u8], f: Fields) -> Operation {
         return Operation::Tick(first == 1);
     }
     if is_line(word, f, b"verdict", &[LARGE, 2]) {
-        return Operation::Verdict(first as usize, mode_of(v[2]));
+        return Operation::Verdict(first as usize, table::mode_said(v[2]));
+    }
+    if is_line(word, f, b"fits", &[]) {
+        return Operation::Fits;
+    }
+    if is_line(word, f, b"fits_state", &[]) {
+        return Operation::RunFits;
     }
     if is_line(word, f, b"write", &[LARGE]) {
         return Operation::Write(first as usize);
@@ -256,7 +256,7 @@ fn add_state(b: Block, f: Fields) -> Block {
     let v = f.values;
     let s = b.state;
     let state = State {
-        mode: mode_of(v[1]),
+        mode: table::mode_said(v[1]),
         last: last_of(v[4], v[5]),
         ticks: Ticks(narrow(v[2])),
         accepted: narrow(v[3]),

@@ -8,8 +8,10 @@ ghost use Rattle.laws.specs.RoundUp.{up};
 ghost use Rattle.table.specs.Rules.{tableKeeps};
 ghost use Rattle.verdict.specs.Inner.{lateOf, interferenceIn, meetsIn, Columns, Delaying};
 ghost use Rattle.verdict.specs.Verdict.{responseAt, verdictOf};
+ghost use Rattle.verdict.specs.Fits.{rowVerdicts, verdictsOf, noVerdicts, leastRow, fitsOf};
 use laws::Found;
 use table::Kind;
+use table::MODES;
 use table::Mode;
 use table::Refusal;
 use table::SERVERS;
@@ -20,6 +22,20 @@ use units::Ticks;
 pub enum Verdict {
     Response(Ticks),
     Misses,
+    No(Refusal),
+}
+
+// A row's verdicts in the three modes.
+pub struct RowVerdicts {
+    pub n: Verdict,
+    pub d1: Verdict,
+    pub d2: Verdict,
+}
+
+// Whether a table fits: yes, the least miss, or a refusal. (02, No. 5.)
+pub enum Fits {
+    Yes,
+    Miss { mode: Mode, row: usize },
     No(Refusal),
 }
 
@@ -151,6 +167,17 @@ fn response(t: Table, row: usize, m: Mode) -> Found
     )
 }
 
+// The verdict for a row that is there, behind the door.
+fn verdict_in(t: Table, row: usize, m: Mode) -> Verdict
+    requires { ⌜ (tableKeeps t ≡ true) × (row < t .nservers) ⌝ }
+    ensures { λ r. ⌜ r ≡ verdictOf t row m ⌝ }
+{
+    match response(t, row, m) {
+        Found::At(r) => Verdict::Response(Ticks(r as u32)),
+        Found::Nothing => Verdict::Misses,
+    }
+}
+
 // The verdict for a server row in a mode: 13 first, then 11.
 pub fn verdict_of(t: Table, row: usize, mode: Mode) -> Verdict
     ensures { λ r. ⌜ r ≡ verdictOf t row mode ⌝ }
@@ -161,8 +188,76 @@ pub fn verdict_of(t: Table, row: usize, mode: Mode) -> Verdict
     if t.nservers <= row {
         return Verdict::No(Refusal::NoServer);
     }
-    match response(t, row, mode) {
-        Found::At(r) => Verdict::Response(Ticks(r as u32)),
-        Found::Nothing => Verdict::Misses,
+    verdict_in(t, row, mode)
+}
+
+// What stands in the place of a row that has no verdicts.
+fn refused(why: Refusal) -> RowVerdicts
+    ensures { λ r. ⌜ r ≡ noVerdicts why ⌝ }
+{
+    let no = Verdict::No(why);
+    RowVerdicts {
+        n: no,
+        d1: no,
+        d2: no,
     }
+}
+
+// The verdicts of a row that is there.
+fn row_verdicts(t: Table, row: usize) -> RowVerdicts
+    requires { ⌜ (tableKeeps t ≡ true) × (row < t .nservers) ⌝ }
+    ensures { λ r. ⌜ r ≡ rowVerdicts t row ⌝ }
+{
+    RowVerdicts {
+        n: verdict_in(t, row, Mode::N),
+        d1: verdict_in(t, row, Mode::D1),
+        d2: verdict_in(t, row, Mode::D2),
+    }
+}
+
+// All verdicts of a table: 13 is asked once for all of them.
+pub fn verdicts_of(t: Table) -> [RowVerdicts; SERVERS]
+    ensures { λ r. ⌜ r ≡ verdictsOf t ⌝ }
+{
+    if !table::table_keeps(t) {
+        return [refused(Refusal::Unsound); SERVERS];
+    }
+    let n = t.nservers;
+    let mut all = [refused(Refusal::NoServer); SERVERS];
+    for row in 0..n {
+        all[row] = row_verdicts(t, row);
+    }
+    all
+}
+
+// The least row that misses in a mode; none after it is looked at.
+fn least_row(t: Table, m: Mode) -> Found
+    requires { ⌜ tableKeeps t ≡ true ⌝ }
+    ensures { λ r. ⌜ r ≡ leastRow (verdictsOf t) m ⌝ }
+{
+    let n = t.nservers;
+    for row in 0..n {
+        let f = response(t, row, m);
+        if let Found::Nothing = f {
+            return Found::At(row);
+        }
+    }
+    Found::Nothing
+}
+
+// Whether a table fits: nothing is worked out past the first miss.
+pub fn fits_of(t: Table) -> Fits
+    ensures { λ r. ⌜ r ≡ fitsOf t ⌝ }
+{
+    if !table::table_keeps(t) {
+        return Fits::No(Refusal::Unsound);
+    }
+    for k in 0..MODES {
+        let m = table::mode_said(k as u64);
+        let f = least_row(t, m);
+        if let Found::At(row) = f {
+            return Fits::Miss { mode: m, row };
+        }
+    }
+    Fits::Yes
 }

@@ -6,14 +6,17 @@ use decimal::put::put_all;
 use decimal::put::put_byte;
 use decimal::put::put_number;
 use files::given::Case;
-use table::Mode;
 use table::Table;
 use text::Reading;
+use verdict::RowVerdicts;
 use verdict::Verdict;
+ghost use mathlib.Core.Path.{_≡_};
+ghost use mathlib.Core.Bool.{true};
 ghost use mathlib.Core.List.{[], _∷_, _++_};
 ghost use Rattle.decimal.specs.Lines.{tab, closed};
 ghost use Rattle.decimal.specs.Room.{Put};
-ghost use Rattle.verdicts.specs.Page.{verdictWord, verdictField, rowLine, page};
+ghost use Rattle.table.specs.Rules.{tableKeeps};
+ghost use Rattle.verdicts.specs.Page.{verdictWord, rowLine, page};
 
 // A row has at most a number of 2 digits and three verdicts of 10 bytes, with what parts and closes
 // them.
@@ -29,36 +32,39 @@ fn put_verdict(v: Verdict, room: &mut [u8], at: usize) -> usize
     }
 }
 
-// The verdict for a row in a mode, and the tab after it.
-fn put_field(t: Table, row: usize, m: Mode, room: &mut [u8], at: usize) -> usize
+// A verdict, and the tab after it.
+fn put_field(v: Verdict, room: &mut [u8], at: usize) -> usize
     ensures { λ r.
-        ⌜ Put (verdictField t row m ++ (tab ∷ [])) (now (room .entry)) at (now (room .exit)) r ⌝ }
+        ⌜ Put (verdictWord v ++ (tab ∷ [])) (now (room .entry)) at (now (room .exit)) r ⌝ }
 {
-    let v = verdict::verdict_of(t, row, m);
     let k = put_verdict(v, room, at);
     put_byte(b'\t', room, k)
 }
 
-fn put_row(t: Table, row: usize, room: &mut [u8], at: usize) -> usize
+fn put_row(row: usize, v: RowVerdicts, room: &mut [u8], at: usize) -> usize
     ensures { λ r.
-        ⌜ Put (closed (rowLine t row ∷ [])) (now (room .entry)) at (now (room .exit)) r ⌝ }
+        ⌜ Put (closed (rowLine row v ∷ [])) (now (room .entry)) at (now (room .exit)) r ⌝ }
 {
+    let n = v.n;
+    let d1 = v.d1;
+    let d2 = v.d2;
     let k = put_number(row as u64, room, at);
     let k = put_byte(b'\t', room, k);
-    let k = put_field(t, row, Mode::N, room, k);
-    let k = put_field(t, row, Mode::D1, room, k);
-    let v = verdict::verdict_of(t, row, Mode::D2);
-    let k = put_verdict(v, room, k);
+    let k = put_field(n, room, k);
+    let k = put_field(d1, room, k);
+    let k = put_verdict(d2, room, k);
     put_byte(b'\n', room, k)
 }
 
 fn put_page(t: Table, room: &mut [u8]) -> usize
+    requires { ⌜ tableKeeps t ≡ true ⌝ }
     ensures { λ r. ⌜ Put (page t) (now (room .entry)) 0 (now (room .exit)) r ⌝ }
 {
+    let all = verdict::verdicts_of(t);
     let n = t.nservers;
     let mut k = 0;
     for row in 0..n {
-        k = put_row(t, row, room, k);
+        k = put_row(row, all[row], room, k);
     }
     k
 }
