@@ -1,12 +1,13 @@
 //! `second night TABLE EVENTS`, `second report TABLE EVENTS`, `second verdicts
-//! TABLE`, `second rewrite TABLE` and `second states FILE`; `-` stands for
-//! standard input.
+//! TABLE`, `second fits TABLE`, `second rewrite TABLE` and `second states FILE`;
+//! `-` stands for standard input.
 
 use std::ffi::{OsStr, OsString};
 use std::fs::File;
 use std::io::{self, BufRead, BufReader, BufWriter, Read, StdoutLock, Write};
 use std::process::ExitCode;
 
+use second::fits;
 use second::night;
 use second::report;
 use second::run::Run;
@@ -16,7 +17,8 @@ use second::text::{self, Refusal};
 use second::verdict;
 
 const USAGE: &str = "usage: second night TABLE EVENTS | second report TABLE EVENTS | \
-                     second verdicts TABLE | second rewrite TABLE | second states FILE";
+                     second verdicts TABLE | second fits TABLE | second rewrite TABLE | \
+                     second states FILE";
 const BUFFER_SIZE: usize = 64 * 1024;
 
 type Events = BufReader<Box<dyn Read>>;
@@ -42,6 +44,7 @@ fn choose_program(arguments: &[OsString]) -> Result<(), String> {
         (Some("night"), &[table, events]) => run_events(table, events, night::answer_events),
         (Some("report"), &[table, events]) => run_events(table, events, report::report_events),
         (Some("verdicts"), &[table]) => print_table(table, verdict::lines),
+        (Some("fits"), &[table]) => print_table(table, fits::line),
         (Some("rewrite"), &[table]) => print_table(table, text::write),
         (Some("states"), &[file]) => run_states(file),
         _ => Err(USAGE.to_string()),

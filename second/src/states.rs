@@ -3,6 +3,7 @@
 
 use std::fmt::Write;
 
+use crate::fits;
 use crate::run::{Answer, Budget, How, Queue, Run, What};
 use crate::table::{Kind, Level, Mode, Server, Table, Task, MAX_SERVERS, MAX_TASKS};
 use crate::text;
@@ -81,6 +82,8 @@ enum Operation {
     Tick(bool),
     Verdict(u64, Mode),
     Write(u64),
+    Fits,
+    FitsState,
 }
 
 impl Operation {
@@ -95,6 +98,8 @@ impl Operation {
                 Ok(Operation::Verdict(row, one(&Mode::ALL, mode, "mode")?))
             }
             ("write", &[room]) => Ok(Operation::Write(room)),
+            ("fits", []) => Ok(Operation::Fits),
+            ("fits_state", []) => Ok(Operation::FitsState),
             _ => Err(format!("no such line: {word} with {} numbers", numbers.len())),
         }
     }
@@ -209,11 +214,12 @@ fn push_row<T>(rows: &mut Vec<T>, row: T, most: usize, word: &str) -> Result<(),
 }
 
 /// Does the operation and writes what was taken, or gives the number of the
-/// refusal. A release and a tick are handed a state, the others a table.
+/// refusal. A release, a tick and `fits_state` are handed a state, the others a
+/// table.
 fn apply(mut run: Run, operation: Operation, out: &mut String) -> Result<(), u8> {
     let sound = match operation {
-        Operation::Release(_) | Operation::Tick(_) => run.is_sound(),
-        Operation::Fresh | Operation::Verdict(..) | Operation::Write(_) => {
+        Operation::Release(_) | Operation::Tick(_) | Operation::FitsState => run.is_sound(),
+        Operation::Fresh | Operation::Verdict(..) | Operation::Write(_) | Operation::Fits => {
             run.table.keeps_the_rules()
         }
     };
@@ -253,6 +259,10 @@ fn apply(mut run: Run, operation: Operation, out: &mut String) -> Result<(), u8>
             push_line(out, &[&"write", &table_text.len()]);
             out.push_str(&table_text);
         }
+        Operation::Fits | Operation::FitsState => match fits::first_miss(&run.table) {
+            None => push_line(out, &[&"fits", &1, &0, &0]),
+            Some((mode, row)) => push_line(out, &[&"fits", &0, &mode.index(), &row]),
+        },
     }
     Ok(())
 }

@@ -70,6 +70,10 @@ fn mistakes_in_the_arguments_and_files() {
     fails(&["report", &empty, folder]);
     fails(&["report", &empty, "no such file"]);
     fails(&["states", &table]);
+    fails(&["fits"]);
+    fails(&["fits", &table, &table]);
+    fails(&["fits", "no such file"]);
+    fails(&["fits", folder]);
 }
 
 #[test]
@@ -81,7 +85,16 @@ fn answers_are_printed() {
     prints(&["rewrite", &table], b"", EXAMPLE);
     prints(&["night", &table, "-"], b"R\t0\nT\t0", "R\t0\tok\n?\tno\t1\n");
     prints(&["night", &table, "-"], b"", "");
-    for program in ["verdicts", "rewrite"] {
+    prints(&["fits", &table], b"", "yes\n");
+    prints(&["fits", "-"], EXAMPLE.as_bytes(), "yes\n");
+    for (from, to, miss) in [
+        ("8000\t8000\t4000", "21000\t27000\t4000", "no\tN\t2\n"),
+        ("8000\t8000\t4000", "8000\t27000\t4000", "no\tD1\t2\n"),
+        ("2000\t0\t0\n", "2000\t0\t10000\n", "no\tD2\t1\n"),
+    ] {
+        prints(&["fits", "-"], EXAMPLE.replace(from, to).as_bytes(), miss);
+    }
+    for program in ["verdicts", "fits", "rewrite"] {
         prints(&[program, "-"], b"", "table\tno\t1\t1\t0\n");
         prints(&[program, "-"], &[b'\n'; 16_385], "table\tno\t2\t0\t0\n");
     }
@@ -110,7 +123,7 @@ fn every_program_tells_the_field() {
         for program in ["night", "report"] {
             prints(&[program, "-", &events], &table, &line);
         }
-        for program in ["verdicts", "rewrite"] {
+        for program in ["verdicts", "fits", "rewrite"] {
             prints(&[program, "-"], &table, &line);
         }
     }

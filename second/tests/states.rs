@@ -209,12 +209,75 @@ fn verdicts_and_writing() {
 }
 
 #[test]
+fn whether_a_table_fits() {
+    let misses_in = |from: &str, to: &str| TABLE.replace(from, to);
+    for operation in ["fits", "fits_state"] {
+        assert_eq!(answer(TABLE, "", operation), "fits\t1\t0\t0\n");
+        let in_n = misses_in("\t40\t8\t8\t4", "\t40\t21\t8\t4");
+        assert_eq!(answer(&in_n, "", operation), "fits\t0\t0\t2\n");
+        let in_d1 = misses_in("\t40\t8\t8\t4", "\t40\t8\t27\t27");
+        assert_eq!(answer(&in_d1, "", operation), "fits\t0\t1\t2\n");
+        let in_d2 = misses_in("\t10\t2\t0\t0", "\t10\t2\t0\t10");
+        assert_eq!(answer(&in_d2, "", operation), "fits\t0\t2\t1\n");
+        // Whatever the state is, if it is sound.
+        for mode in 0..3 {
+            let state = format!("state\t{mode}\t7\t4\t0\t0\nbudget\t2\t7\nqueue\t1\t0\n");
+            assert_eq!(answer(TABLE, &state, operation), "fits\t1\t0\t0\n");
+            assert_eq!(answer(&in_d1, &state, operation), "fits\t0\t1\t2\n");
+        }
+        assert_eq!(changed("budget\t1\t7", "budget\t5\t20", operation), "fits 1 0 0");
+    }
+}
+
+#[test]
+fn refused_before_it_is_asked_whether_a_table_fits() {
+    for (from, to) in [
+        ("table\t1000\t3\t3", "table\t0\t3\t3"),
+        ("table\t1000\t3\t3", "table\t1000\t33\t3"),
+        ("\t30\t10", "\t20\t10"),
+        ("\t10\t40\t8\t8\t4", "\t10\t40\t8\t8\t41"),
+        ("task\t0\t1", "task\t0\t2"),
+        ("task\t1\t1\t40\t1\t3\t4\t4", "task\t1\t1\t40\t1\t5\t4\t4"),
+    ] {
+        assert_eq!(changed(from, to, "fits"), "no 13", "{to}");
+        assert_eq!(changed(from, to, "fits_state"), "no 13", "{to}");
+    }
+    // The state is looked at by one of the two only.
+    for (from, to) in [
+        ("budget\t2\t7", "budget\t2\t11"),
+        ("budget\t2\t7", "budget\t3\t7"),
+        ("queue\t1\t1", "queue\t17\t1"),
+        ("queue\t0\t0", "queue\t0\t1"),
+        ("queue\t2\t2", "queue\t2\t3"),
+        ("\t1\t0\nbudget", "\t1\t3\nbudget"),
+        ("state\t1\t7", "state\t1\t0"),
+        ("state\t1\t7", "state\t2\t7"),
+        ("state\t1\t7", "state\t1\t4000000001"),
+        ("state\t1\t7\t4", "state\t1\t7\t2"),
+    ] {
+        assert_eq!(changed(from, to, "fits"), "fits 1 0 0", "{to}");
+        assert_eq!(changed(from, to, "fits_state"), "no 13", "{to}");
+    }
+    // A table that misses is refused no less.
+    let misses = TABLE.replace("\t40\t8\t8\t4", "\t40\t21\t8\t4");
+    assert_eq!(answer(&misses, "state\t0\t0\t0\t1\t0\n", "fits_state"), "no\t13\n");
+    assert_eq!(answer(&misses.replace("table\t1000", "table\t0"), "", "fits"), "no\t13\n");
+    // At the bounds of the counts the question stands.
+    let spent = "state\t0\t4000000000\t4000000000\t0\t0\n";
+    assert_eq!(answer(TABLE, spent, "fits_state"), "fits\t1\t0\t0\n");
+}
+
+#[test]
 fn rows_beyond_the_count_are_not_in_use() {
     let table = TABLE.replace("table\t1000\t3\t3", "table\t1000\t3\t2");
     let fresh = answer(&table, "", "fresh");
     assert_eq!(fresh.matches("queue").count(), 2);
     let out_of_use = "queue\t0\t0\nqueue\t0\t0\nqueue\t99\t99\n";
     assert_eq!(answer(&table, out_of_use, "release\t2"), "no\t6\n");
+    // A server that misses, and one that breaks the rules, but not in use.
+    let table = TABLE.replace("task\t0\t1", "server\t0\t1\t5\t40\t40\t40\t41\ntask\t0\t1");
+    assert_eq!(answer(&table, "", "fits"), "fits\t1\t0\t0\n");
+    assert_eq!(answer(&table, "", "fits_state"), "fits\t1\t0\t0\n");
 }
 
 #[test]
@@ -232,6 +295,8 @@ fn several_blocks_and_bad_texts() {
         "table\t1\t1\t1\nserver\t0\t2\t1\t1\t1\t1\t1\nfresh\n",
         "table\t1\t1\t1\ntick\t2\n",
         "table\t1\t1\t1\nverdict\t0\t3\n",
+        "table\t1\t1\t1\nfits\t0\n",
+        "table\t1\t1\t1\nfits_state\t0\n",
         "table\t1\t1\t1\nbudget\t1\nfresh\n",
         "table\t1\t1\t1\ntable\t1\t1\t1\nfresh\n",
     ] {

@@ -3,6 +3,7 @@
 
 use std::fmt::{Display, Write};
 
+use crate::judged::LEVELS;
 use crate::random::Random;
 use crate::table::{self, Server, Table, MAX_SERVERS, MAX_TASKS};
 
@@ -58,6 +59,8 @@ pub enum Operation {
     Tick(u64),
     Verdict(u64, u64),
     Write(u64),
+    Fits,
+    FitsState,
 }
 
 impl Operation {
@@ -68,7 +71,19 @@ impl Operation {
             Operation::Tick(_) => "tick",
             Operation::Verdict(..) => "verdict",
             Operation::Write(_) => "write",
+            Operation::Fits => "fits",
+            Operation::FitsState => "fits_state",
         }
+    }
+
+    /// Whether the state is handed in, and not the table alone.
+    pub fn looks_at_state(self) -> bool {
+        matches!(self, Operation::Release(_) | Operation::Tick(_) | Operation::FitsState)
+    }
+
+    /// Whether it asks if the table fits.
+    pub fn is_fits(self) -> bool {
+        matches!(self, Operation::Fits | Operation::FitsState)
     }
 }
 
@@ -213,7 +228,8 @@ impl Block {
             }
             9..=13 => Operation::Release(draw_row(self.task_count, random)),
             14 | 15 => Operation::Verdict(draw_row(self.server_count, random), random.within(0, 2)),
-            16..=18 => Operation::Write(self.draw_room(random)),
+            16 | 17 => Operation::Write(self.draw_room(random)),
+            18 => random.pick(&[Operation::Fits, Operation::FitsState]),
             _ => Operation::Fresh,
         }
     }
@@ -235,18 +251,24 @@ impl Block {
         self.queues.iter().map(|queue| queue.waiting).sum()
     }
 
-    /// Whether the operation must be refused with 13: a release and a tick look
-    /// at the state, the others at the table alone.
+    /// Whether the operation must be refused with 13, by what it looks at.
     pub fn must_be_13(&self) -> bool {
-        let with_state = matches!(self.operation, Operation::Release(_) | Operation::Tick(_));
-        self.broken_table || (self.broken_state && with_state)
+        self.broken_table || (self.broken_state && self.operation.looks_at_state())
     }
 
     /// How many bytes the table's text has.
     fn text_length(&self) -> u64 {
-        // Both kinds have a word of five letters, all levels one of two.
-        let rows = self.row_lines(self.tick, |_| "timed", |_| "LO");
-        (line(&[&"tick", &self.tick]).len() + rows.len()) as u64
+        self.table_text().len() as u64
+    }
+
+    /// The text of the table, which keeps the rules, on the rows in use.
+    pub fn table_text(&self) -> String {
+        let mut used = self.clone();
+        used.servers.truncate(self.server_count as usize);
+        used.tasks.truncate(self.task_count as usize);
+        let kind = |server: &Server| if server.timed { "timed" } else { "event" };
+        let level = |task: &Task| LEVELS[task.level as usize];
+        line(&[&"tick", &self.tick]) + &used.row_lines(self.tick, kind, level)
     }
 
     /// The rows' lines, each time so many times its ticks.
@@ -302,7 +324,7 @@ impl Block {
         text += &self.state_lines(random);
         let word = self.operation.word();
         text += &match self.operation {
-            Operation::Fresh => line(&[&word]),
+            Operation::Fresh | Operation::Fits | Operation::FitsState => line(&[&word]),
             Operation::Verdict(row, mode) => line(&[&word, &row, &mode]),
             Operation::Release(number) | Operation::Tick(number) | Operation::Write(number) => {
                 line(&[&word, &number])

@@ -34,7 +34,11 @@ impl Case {
             };
         }
         let (good, name) = match random.below(100) {
-            0..=27 => (table::small(random), "good-small".to_string()),
+            0..=22 => (table::small(random), "good-small".to_string()),
+            23..=27 => {
+                let (table, misses) = table::fit_or_miss(random);
+                (table, format!("good-{misses}"))
+            }
             28..=35 => {
                 let good = table::serving(random);
                 let events = events::serving_events(good.tasks.len(), random);

@@ -10,11 +10,15 @@ use std::thread;
 
 use crate::case::{Case, LONG};
 use crate::coverage::Coverage;
+use crate::fit::Page;
 
-const PROGRAMS: [&str; 4] = ["night", "report", "verdicts", "rewrite"];
+const PROGRAMS: [&str; 5] = ["night", "report", "verdicts", "fits", "rewrite"];
+/// The places of two of them.
+const VERDICTS: usize = 2;
+const FITS: usize = 3;
 
 pub struct Options {
-    /// The folder with the executables `night`, `report`, `verdicts` and
+    /// The folder with the executables `night`, `report`, `verdicts`, `fits` and
     /// `rewrite`.
     pub first: PathBuf,
     /// The `second` binary.
@@ -96,6 +100,8 @@ fn work(
         case.write_to(folder).map_err(|error| failed("write to", folder, &error))?;
         let runs = run_all(options, folder)?;
 
+        let page = Page::of(&case.table, &runs[VERDICTS].second.stdout);
+
         let mut coverage = Coverage::default();
         coverage.case(&case.name, &runs[0].second.stdout);
         for (program, run) in PROGRAMS.iter().zip(&runs) {
@@ -107,14 +113,16 @@ fn work(
                 }
                 "report" => coverage.page(&case.table, &case.events, output),
                 "verdicts" => coverage.verdicts(output),
+                "fits" => coverage.fits(page.as_ref()),
                 _ => coverage.rewrite(&case.table, output),
             }
         }
-        let differences: Vec<String> = PROGRAMS
+        let mut differences: Vec<String> = PROGRAMS
             .iter()
             .zip(&runs)
             .filter_map(|(program, run)| Some(format!("  {program}: {}", run.difference()?)))
             .collect();
+        differences.extend(unlike_the_page(page.as_ref(), &runs[FITS].second.stdout));
 
         let mut totals = totals.lock().expect("no worker panicked");
         totals.coverage.add(&coverage);
@@ -138,6 +146,16 @@ fn work(
 /// The first part of a case's name: `good`, `pair` or the number it is after.
 fn kind_of(name: &str) -> &str {
     name.split('-').next().unwrap_or(name)
+}
+
+/// How the answer of `fits` differs from what the page of verdicts says, if it
+/// does.
+fn unlike_the_page(page: Option<&Page>, answer: &[u8]) -> Option<String> {
+    let line = page?.line();
+    (line.as_bytes() != answer).then(|| {
+        let (one, other) = (show(Some(line.as_bytes())), show(Some(answer)));
+        format!("  fits: by the verdicts of second {one}, by its fits {other}")
+    })
 }
 
 /// What the two programs of one name made of a case.

@@ -3,9 +3,11 @@
 use std::cmp::Ordering;
 use std::collections::BTreeMap;
 
+use crate::fit::{self, Page};
 use crate::judged::{self, Judged, LEVELS, MODES};
 
-/// The counts that must not be 0, beside those of step 1.
+/// The counts that must not be 0, beside those of step 1 and of tables that fit or
+/// miss.
 const WANTED: [&str; 24] = [
     "table taken",
     "event no 1",
@@ -414,6 +416,13 @@ impl Coverage {
         }
     }
 
+    /// Counts whether a table fits, and what is to be seen of that.
+    pub fn fits(&mut self, page: Option<&Page>) {
+        for name in page.map(Page::names).unwrap_or_default() {
+            self.count(&name);
+        }
+    }
+
     /// Counts a table written back, by whether it is the text that was read.
     pub fn rewrite(&mut self, table: &[u8], output: &[u8]) {
         if output == table {
@@ -433,8 +442,8 @@ impl Coverage {
                 wanted.push(format!("table no {number} at {field} of a {word} line"));
             }
         }
-        let others =
-            [&CAUSES[..], &MADE[..], &WANTED[..], &judged::WANTED[..], &PAGES[..]].concat();
+        let seen = [&WANTED[..], &judged::WANTED[..], &PAGES[..], &fit::WANTED[..]].concat();
+        let others = [&CAUSES[..], &MADE[..], &seen[..]].concat();
         wanted.extend(others.into_iter().map(String::from));
         if long {
             let seams = READ.counts.iter().chain(&WRITTEN.counts).chain(&BATCH.counts[..3]);

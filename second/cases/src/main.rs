@@ -7,6 +7,7 @@ mod compare;
 mod coverage;
 mod damage;
 mod events;
+mod fit;
 mod judged;
 mod random;
 mod states;
@@ -26,10 +27,10 @@ const USAGE: &str = "usage:
   cases states FIRST SECOND [--seed S] [--count N] [--keep DIR]
   cases make --seed S --number K --out DIR
   cases big --lines N --servers A --tasks B [--seed S] --out DIR
-FIRST is a folder with executables night, report, verdicts and rewrite, and for
-states one states; SECOND is the binary second. Without --seed and --count: seed
-1, 2000 cases or blocks. L long nights follow the N cases, their numbers K from
-1000000000 on, one in 20 of them of 80000 to 120000 lines or some more, the
+FIRST is a folder with executables night, report, verdicts, fits and rewrite, and
+for states one states; SECOND is the binary second. Without --seed and --count:
+seed 1, 2000 cases or blocks. L long nights follow the N cases, their numbers K
+from 1000000000 on, one in 20 of them of 80000 to 120000 lines or some more, the
 others of up to 20000; without --long none does.";
 
 fn main() -> ExitCode {

@@ -1,11 +1,13 @@
 //! Runs two `states` programs over the same blocks and compares what they print.
 
+use std::cmp::Ordering;
 use std::collections::BTreeMap;
 use std::fs;
 use std::path::{Path, PathBuf};
 use std::process::{Command, Output, Stdio};
 
 use crate::block::{Block, Operation};
+use crate::fit::{self, Page};
 use crate::judged::{self, Judged, LEVELS, MODES};
 use crate::random::Random;
 use crate::table;
@@ -14,9 +16,13 @@ use crate::unsound;
 /// Few files, so that few programs are started.
 const BLOCKS_IN_FILE: u64 = 200;
 
-/// The counts that must not be 0, beside those of step 1 and one for each clause
-/// broken.
-const WANTED: [&str; 36] = [
+/// The last of so many blocks asks whether a table fits, with a clause broken, by
+/// turns.
+const IN_TURN_EVERY: u64 = 20;
+
+/// The counts that must not be 0, beside those of step 1, those of tables that fit
+/// or miss, and those for each clause broken.
+const WANTED: [&str; 45] = [
     "fresh taken",
     "release taken",
     "tick taken",
@@ -36,6 +42,15 @@ const WANTED: [&str; 36] = [
     "verdict no 13",
     "write no 12",
     "write no 13",
+    "fits yes",
+    "fits no",
+    "fits no 13",
+    "fits_state yes",
+    "fits_state no",
+    "fits_state no 13",
+    "fits_state, miss told in a lesser mode than the state's",
+    "fits_state, miss told in the state's mode",
+    "fits_state, miss told in a greater mode than the state's",
     "tick run",
     "tick empty",
     "tick idle",
@@ -71,6 +86,8 @@ struct Made {
     number: u64,
     block: Block,
     text: String,
+    /// The page of verdicts, where it is asked whether the table fits.
+    page: Option<Page>,
 }
 
 #[derive(Default)]
@@ -105,7 +122,18 @@ pub fn compare(options: &Options) -> Result<bool, String> {
 fn make(seed: u64, number: u64) -> Made {
     let mut random = Random::for_case(seed, number);
     let random = &mut random;
-    let mut block = match random.below(20) {
+    let mut block = if number % IN_TURN_EVERY == IN_TURN_EVERY - 1 {
+        unsound::in_turn((number / IN_TURN_EVERY) as usize, random)
+    } else {
+        any_block(random)
+    };
+    block.pad(random);
+    let text = block.text(random);
+    Made { number, block, text, page: None }
+}
+
+fn any_block(random: &mut Random) -> Block {
+    match random.below(20) {
         0..=3 => Block::sound(&table::small(random), "sound-small", random),
         4..=6 => Block::at_limit(table::small(random), random),
         7 => Block::sound(&table::middle(random), "sound-middle", random),
@@ -113,12 +141,15 @@ fn make(seed: u64, number: u64) -> Made {
             let (table, bound) = table::at_bound(random);
             Block::sound(&table, &format!("sound-{bound}"), random)
         }
-        10..=17 => unsound::one_fault(random),
+        10 | 11 => {
+            let (table, misses) = table::fit_or_miss(random);
+            let mut block = Block::sound(&table, &format!("sound-{misses}"), random);
+            block.operation = random.pick(&[Operation::Fits, Operation::FitsState]);
+            block
+        }
+        12..=17 => unsound::one_fault(random),
         _ => unsound::two_faults(random),
-    };
-    block.pad(random);
-    let text = block.text(random);
-    Made { number, block, text }
+    }
 }
 
 fn compare_file(
@@ -128,10 +159,13 @@ fn compare_file(
     to: u64,
     totals: &mut Totals,
 ) -> Result<(), String> {
-    let made: Vec<Made> = (from..to).map(|number| make(options.seed, number)).collect();
+    let mut made: Vec<Made> = (from..to).map(|number| make(options.seed, number)).collect();
     let mut text = String::new();
-    for Made { number, block, text: lines } in &made {
+    for Made { number, block, text: lines, page } in &mut made {
         text += &format!("# block {number} {}\n{lines}\n", block.name);
+        if block.operation.is_fits() && !block.must_be_13() {
+            *page = page_of(options, folder, block)?;
+        }
     }
     let file = folder.join("blocks");
     fs::write(&file, &text).map_err(|error| failed("write", &file, &error))?;
@@ -154,13 +188,23 @@ fn compare_file(
     Ok(())
 }
 
+/// The page that `second` prints for the table of a block.
+fn page_of(options: &Options, folder: &Path, block: &Block) -> Result<Option<Page>, String> {
+    let file = folder.join("table");
+    let table = block.table_text();
+    fs::write(&file, &table).map_err(|error| failed("write", &file, &error))?;
+    let verdicts = run(Command::new(&options.second).arg("verdicts").arg(&file))?;
+    Ok(Page::of(table.as_bytes(), &verdicts.stdout))
+}
+
 /// Compares the two outputs answer by answer, a block each.
 fn compare_answers(seed: u64, made: &[Made], first: &[u8], second: &[u8], totals: &mut Totals) {
     let (mut ones, mut others) = (answers(first).into_iter(), answers(second).into_iter());
-    for Made { number, block, .. } in made {
+    for Made { number, block, page, .. } in made {
         let (one, other) = (ones.next(), others.next());
         totals.see(block, other);
-        match difference(block, one, other) {
+        totals.see_page(block, page.as_ref());
+        match difference(block, page.as_ref(), one, other) {
             None => totals.passed += 1,
             Some(words) => {
                 totals.failed += 1;
@@ -243,8 +287,13 @@ fn numbers_of(line: &[u8], word: &[u8]) -> Option<Vec<u64>> {
 }
 
 /// The first difference in words: between the two, or from the 13 that a broken
-/// block must bring and no other may.
-fn difference(block: &Block, first: Option<&[u8]>, second: Option<&[u8]>) -> Option<String> {
+/// block must bring and no other may, or from the page of verdicts.
+fn difference(
+    block: &Block,
+    page: Option<&Page>,
+    first: Option<&[u8]>,
+    second: Option<&[u8]>,
+) -> Option<String> {
     if first != second {
         let mut ones = first.unwrap_or_default().split_inclusive(|&byte| byte == b'\n');
         let mut others = second.unwrap_or_default().split_inclusive(|&byte| byte == b'\n');
@@ -258,8 +307,15 @@ fn difference(block: &Block, first: Option<&[u8]>, second: Option<&[u8]>) -> Opt
     match (block.must_be_13(), second == Some(b"no\t13\n")) {
         (true, false) => Some(format!("must be 13, both say {}", show(second))),
         (false, true) => Some("is sound, both say 13".to_string()),
-        _ => None,
+        _ => unlike_the_page(page, second),
     }
+}
+
+/// How the answer differs from what the page of verdicts says, if it does.
+fn unlike_the_page(page: Option<&Page>, answer: Option<&[u8]>) -> Option<String> {
+    let line = page?.states_line();
+    let line = Some(line.as_bytes());
+    (line != answer).then(|| format!("by the verdicts {}, both say {}", show(line), show(answer)))
 }
 
 fn show(line: Option<&[u8]>) -> String {
@@ -289,10 +345,19 @@ impl Totals {
             self.count(&format!("{asked} no {}", numbers[0]));
             if numbers == [13] {
                 self.count(&broken(&block.name));
+                if block.operation.is_fits() {
+                    self.count(&format!("{asked}, {}", broken(&block.name)));
+                }
             }
         } else if let Some(numbers) = numbers_of(line, b"verdict") {
             let is_met = numbers.first() == Some(&1);
             self.count(if is_met { "verdict response" } else { "verdict misses" });
+        } else if let Some(numbers) = numbers_of(line, b"fits") {
+            let word = if numbers.first() == Some(&1) { "yes" } else { "no" };
+            self.count(&format!("{asked} {word}"));
+            if block.broken_state {
+                self.count(&beside(&block.name));
+            }
         } else {
             self.count(&format!("{asked} taken"));
         }
@@ -305,6 +370,22 @@ impl Totals {
             if *tick == 3_999_999_999 {
                 self.count("tick 3999999999");
             }
+        }
+    }
+
+    /// Counts what is to be seen of tables that fit or miss, and how the mode of
+    /// the state lies to the one told.
+    fn see_page(&mut self, block: &Block, page: Option<&Page>) {
+        let Some(page) = page else { return };
+        for name in page.names() {
+            self.count(&name);
+        }
+        if let (Operation::FitsState, Some((mode, _))) = (block.operation, page.told()) {
+            self.count(match mode.cmp(&block.mode) {
+                Ordering::Less => "fits_state, miss told in a lesser mode than the state's",
+                Ordering::Equal => "fits_state, miss told in the state's mode",
+                Ordering::Greater => "fits_state, miss told in a greater mode than the state's",
+            });
         }
     }
 
@@ -344,9 +425,15 @@ impl Totals {
     /// Prints all counts; gives whether none of the wanted is 0.
     fn print(&self) -> bool {
         println!("seen in the answers:");
-        let clauses = unsound::names().map(broken);
-        let others = WANTED.iter().chain(&judged::WANTED).map(|what| what.to_string());
-        let wanted: Vec<String> = others.chain(clauses).collect();
+        let mut wanted: Vec<String> = [&WANTED[..], &judged::WANTED[..], &fit::WANTED[..]]
+            .concat()
+            .into_iter()
+            .map(String::from)
+            .collect();
+        wanted.extend(unsound::names().map(broken));
+        wanted.extend(unsound::table_names().map(|name| format!("fits, {}", broken(name))));
+        wanted.extend(unsound::state_names().map(beside));
+        wanted.extend(unsound::names().map(|name| format!("fits_state, {}", broken(name))));
         let mut complete = true;
         for what in &wanted {
             let count = self.seen.get(what).copied().unwrap_or(0);
@@ -368,6 +455,11 @@ impl Totals {
 /// What is counted where a broken clause is refused.
 fn broken(name: &str) -> String {
     format!("13 for {name}")
+}
+
+/// What is counted where `fits` is answered beside a broken state.
+fn beside(name: &str) -> String {
+    format!("fits, answered beside {name}")
 }
 
 #[cfg(test)]

@@ -194,6 +194,89 @@ pub fn serving(random: &mut Random) -> Table {
     table
 }
 
+/// The modes in which a table of [`fit_or_miss`] misses, with its name. The first is
+/// there more than once.
+const MISSES: [(&str, &[usize]); 10] = [
+    ("fits", &[]),
+    ("fits", &[]),
+    ("fits", &[]),
+    ("misses-n", &[0]),
+    ("misses-d1", &[1]),
+    ("misses-d2", &[2]),
+    ("misses-n-d1", &[0, 1]),
+    ("misses-n-d2", &[0, 2]),
+    ("misses-d1-d2", &[1, 2]),
+    ("misses-n-d1-d2", &[0, 1, 2]),
+];
+
+/// A table that fits, or one that misses in the modes of its name and in no
+/// other, and that name. Its periods are short, so that nobody searches long.
+pub fn fit_or_miss(random: &mut Random) -> (Table, &'static str) {
+    let (name, modes) = random.pick(&MISSES);
+    let few = random.within(2, 8) as usize;
+    let servers = match random.below(8) {
+        0 | 1 if modes.is_empty() => 1,
+        2 | 3 => MAX_SERVERS,
+        _ => few,
+    };
+    let mut table = fitting(servers, random);
+    for &mode in modes {
+        add_miss(&mut table, mode, random);
+    }
+    (table, name)
+}
+
+/// A table that fits: each server takes its capacity twice at most within the
+/// shortest period of those that have any, and all of that has room in it. The
+/// highest has some in every mode. One other row may have none at all, and a
+/// period too short for those above it.
+fn fitting(servers: usize, random: &mut Random) -> Table {
+    let shape = Shape {
+        servers,
+        tasks: random.within(1, 6) as usize,
+        partitions: random.pick(&[1, 1, 2, 3]),
+        longest_period: 1,
+        longest_limit: random.pick(&[1, 2, 3]),
+    };
+    let mut table = draw(&shape, random);
+    let shortest = 4 * servers as u64;
+    for server in &mut table.servers {
+        server.period = random.within(shortest, 2 * shortest);
+        server.capacity = [0; 3].map(|_| random.pick(&[0, 1, 1, 2]));
+    }
+    let highest = highest_row(&table.servers);
+    table.servers[highest].capacity = [0; 3].map(|_| random.within(1, 2));
+    let row = random.below(servers);
+    if row != highest && random.chance(40) {
+        table.servers[row].period = random.within(1, 3);
+        table.servers[row].capacity = [0; 3];
+    }
+    table
+}
+
+/// Gives a row below the highest more capacity in the mode than those above leave
+/// of its period, so that it misses. By turns the rows below have none, and do
+/// not miss.
+fn add_miss(table: &mut Table, mode: usize, random: &mut Random) {
+    let highest = highest_row(&table.servers);
+    let row =
+        (highest + random.within(1, table.servers.len() as u64 - 1) as usize) % table.servers.len();
+    let Server { priority, period, .. } = table.servers[row];
+    let above = table.servers.iter().filter(|other| other.priority > priority);
+    let taken: u64 = above.map(|other| other.capacity[mode]).sum();
+    let least = (period + 1).saturating_sub(taken).max(1);
+    table.servers[row].capacity[mode] = random.within(least, period);
+    if random.chance(50) {
+        for other in table.servers.iter_mut().filter(|other| other.priority < priority) {
+            other.capacity[mode] = 0;
+        }
+    }
+}
+
+fn highest_row(servers: &[Server]) -> usize {
+    (0..servers.len()).max_by_key(|&row| servers[row].priority).unwrap_or(0)
+}
+
 fn draw(shape: &Shape, random: &mut Random) -> Table {
     let tick = match random.below(10) {
         0 | 1 => 1,
@@ -444,5 +527,46 @@ fn to_extremes(table: &mut Table, random: &mut Random) {
             let lowest = (limit - 1) * tick + 1;
             random.pick(&[lowest, limit * tick])
         });
+    }
+}
+
+#[cfg(test)]
+mod tests {
+    use super::{fit_or_miss, Server, MAX_SERVERS};
+    use crate::random::Random;
+
+    /// Whether a row misses in a mode, by trying every R.
+    fn misses(servers: &[Server], row: usize, mode: usize) -> bool {
+        let Server { priority, period, capacity, .. } = servers[row];
+        let asked = |r: u64| {
+            let above = servers.iter().filter(|other| other.priority > priority);
+            let from_above = above.map(|other| {
+                let late = if other.timed { 0 } else { other.period - other.capacity[mode] };
+                (r + late).div_ceil(other.period) * other.capacity[mode]
+            });
+            capacity[mode] + from_above.sum::<u64>()
+        };
+        capacity[mode] > 0 && (1..=period).all(|r| asked(r) > r)
+    }
+
+    #[test]
+    fn tables_miss_in_the_modes_of_their_names() {
+        let mut sizes = Vec::new();
+        for seed in 0..2000 {
+            let (table, name) = fit_or_miss(&mut Random::new(seed));
+            let rows = 0..table.servers.len();
+            let mut found = String::new();
+            for (mode, word) in ["-n", "-d1", "-d2"].iter().enumerate() {
+                if rows.clone().any(|row| misses(&table.servers, row, mode)) {
+                    found += word;
+                }
+            }
+            assert_eq!(
+                name,
+                if found.is_empty() { "fits".into() } else { "misses".to_string() + &found }
+            );
+            sizes.push(rows.len());
+        }
+        assert!([1, 2, 8, MAX_SERVERS].iter().all(|size| sizes.contains(size)));
     }
 }

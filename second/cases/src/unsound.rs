@@ -219,7 +219,17 @@ const STATE_FAULTS: [(&str, Fault); 17] = [
 
 /// All names that a block broken in one clause may have.
 pub fn names() -> impl Iterator<Item = &'static str> {
-    TABLE_FAULTS.iter().chain(&STATE_FAULTS).map(|(name, _)| *name)
+    table_names().chain(state_names())
+}
+
+/// Those of a broken table.
+pub fn table_names() -> impl Iterator<Item = &'static str> {
+    TABLE_FAULTS.iter().map(|(name, _)| *name)
+}
+
+/// Those of a broken state.
+pub fn state_names() -> impl Iterator<Item = &'static str> {
+    STATE_FAULTS.iter().map(|(name, _)| *name)
 }
 
 /// A block broken in one clause.
@@ -243,40 +253,67 @@ pub fn two_faults(random: &mut Random) -> Block {
     }
 }
 
+/// A block with `fits`, and in the next turns one with `fits_state`, broken in
+/// every clause by turns. So `fits` is also asked beside every broken state.
+pub fn in_turn(turn: usize, random: &mut Random) -> Block {
+    let clauses = TABLE_FAULTS.len() + STATE_FAULTS.len();
+    let operation = [Operation::Fits, Operation::FitsState][turn / clauses % 2];
+    loop {
+        let mut block = any_sound(random);
+        if break_clause(&mut block, turn % clauses, random) {
+            block.operation = operation;
+            return block;
+        }
+    }
+}
+
 fn broken(random: &mut Random) -> Block {
     loop {
-        let table = match random.below(4) {
-            0 => table::small(random),
-            1 => table::at_bound(random).0,
-            _ => table::rich(random),
-        };
-        let mut block = Block::sound(&table, "", random);
+        let mut block = any_sound(random);
         if break_once(&mut block, random) {
             return block;
         }
     }
 }
 
+fn any_sound(random: &mut Random) -> Block {
+    let table = match random.below(4) {
+        0 => table::small(random),
+        1 => table::at_bound(random).0,
+        _ => table::rich(random),
+    };
+    Block::sound(&table, "", random)
+}
+
 /// Breaks a block in one clause; false, with the block in any shape, if it has
 /// no place for that.
 fn break_once(block: &mut Block, random: &mut Random) -> bool {
     let of_table = random.chance(60);
-    let (name, fault) =
-        if of_table { random.pick(&TABLE_FAULTS) } else { random.pick(&STATE_FAULTS) };
-    block.name = name.to_string();
-    if of_table {
-        block.broken_table = true;
+    let clause = if of_table {
+        random.below(TABLE_FAULTS.len())
     } else {
-        block.broken_state = true;
-    }
+        TABLE_FAULTS.len() + random.below(STATE_FAULTS.len())
+    };
+    break_clause(block, clause, random)
+}
+
+/// The same for a clause by its number, those of the table first.
+fn break_clause(block: &mut Block, clause: usize, random: &mut Random) -> bool {
+    let of_state = clause.checked_sub(TABLE_FAULTS.len());
+    let (name, fault) = match of_state {
+        None => TABLE_FAULTS[clause],
+        Some(clause) => STATE_FAULTS[clause],
+    };
+    block.name = name.to_string();
+    block.broken_table |= of_state.is_none();
+    block.broken_state |= of_state.is_some();
     fault(block, random)
 }
 
 /// An operation that is handed the state.
 fn look_at_state(block: &mut Block, random: &mut Random) {
     block.operation = match block.operation {
-        Operation::Release(task) => Operation::Release(task),
-        Operation::Tick(mark) => Operation::Tick(mark),
+        operation if operation.looks_at_state() => operation,
         _ if random.chance(30) => Operation::Release(random.below(block.tasks.len()) as u64),
         _ => Operation::Tick(random.within(0, 1)),
     };
