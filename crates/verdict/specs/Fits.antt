@@ -34,11 +34,13 @@ rowVerdicts t i =
 unfoldable pub verdictsOf : Table → List RowVerdicts
 verdictsOf t = listed 32 (rowVerdicts t)
 
+-- the one of a mode
 abbrev pub verdictIn : RowVerdicts → Mode → Verdict
 verdictIn v N = v .n
 verdictIn v D1 = v .d1
 verdictIn v D2 = v .d2
 
+-- "misses"
 abbrev pub isMiss : Verdict → Bool
 isMiss (Response r) = false
 isMiss Misses = true
