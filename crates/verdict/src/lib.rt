@@ -1,4 +1,4 @@
-// How fast a server answers in a mode. (01, Verdicts.)
+// How fast a server answers in a mode (01, Verdicts), and whether a table fits (02, No. 5).
 
 ghost use mathlib.Core.Path.{_≡_};
 ghost use mathlib.Core.Bool.{true};
