@@ -44,13 +44,13 @@ module _ (t : Table) where
   verdicts-at i d h = listed-at 32 (rowVerdicts t) i d h
 
 -- As a loop writes them: those of the first i rows, and after them what stands for an absent row.
-pub record Written (t : Table) (i : ℕ) (all : List RowVerdicts) : Type 0 where
+pub record RowsWritten (t : Table) (i : ℕ) (all : List RowVerdicts) : Type 0 where
   pub long : length all ≡ 32
   pub rows : (k : ℕ) → k < i → getD all k (noVerdicts NoServer) ≡ rowVerdicts t k
   pub absent : (k : ℕ) → i ≤ k → k < 32 → getD all k (noVerdicts NoServer) ≡ noVerdicts NoServer
 
 module _ (t : Table) where
-  pub none-written : Written t 0 (replicate 32 (noVerdicts NoServer))
+  pub none-written : RowsWritten t 0 (replicate 32 (noVerdicts NoServer))
   none-written =
       record {
         long = length-replicate 32 (noVerdicts NoServer);
@@ -58,8 +58,8 @@ module _ (t : Table) where
         absent = λ k h l. getD-replicate 32 k (noVerdicts NoServer) (noVerdicts NoServer) l;
       }
 
-  pub row-written : (i : ℕ) (all : List RowVerdicts) (v : RowVerdicts) → i < 32 → Written t i all →
-      v ≡ rowVerdicts t i → Written t (i + 1) (set all i v)
+  pub row-written : (i : ℕ) (all : List RowVerdicts) (v : RowVerdicts) → i < 32 → RowsWritten t i all →
+      v ≡ rowVerdicts t i → RowsWritten t (i + 1) (set all i v)
   row-written i all v h w e =
       let d = noVerdicts NoServer in
       let same : getD (set all i v) i d ≡ rowVerdicts t i = getD-set-same all i v d (omega (arith, w .long)) ∙ e in
@@ -75,7 +75,7 @@ module _ (t : Table) where
   absent-row k e h =
       rw (verdict-absent t N k e h, verdict-absent t D1 k e h, verdict-absent t D2 k e h)
 
-  pub all-written : (all : List RowVerdicts) → tableKeeps t ≡ true → Written t (t .nservers) all → all ≡ verdictsOf t
+  pub all-written : (all : List RowVerdicts) → tableKeeps t ≡ true → RowsWritten t (t .nservers) all → all ≡ verdictsOf t
   unfolding verdictsOf
   all-written all e w =
       is-listed 32 (rowVerdicts t) (noVerdicts NoServer) all (w .long) (λ k h. row k h (le-or-lt (t .nservers) k))
@@ -219,10 +219,6 @@ module _ (t : Table) where
   unfolding fromVerdicts
   fits-is = go (true-or-false (tableKeeps t))
     where
-      said : (m : Mode) → ((k : ℕ) → k < 3 → rowIn t k ≡ Nothing) → (i : ℕ) → verdictOf t i m ≡ Misses → ⊥
-      said m f i =
-          row-none t m (ap (leastRow (verdictsOf t)) (sym (mode-back m)) ∙ f (modeValue m) (mode-below m)) i
-
       earlier : (n : Mode) (k : ℕ) → modeValue n < k → ((j : ℕ) → j < k → rowIn t j ≡ Nothing) → (i : ℕ) →
           verdictOf t i n ≡ Misses → ⊥
       earlier n k h f i =
@@ -239,7 +235,7 @@ module _ (t : Table) where
                 earlier n k (omega (arith, mode-again k (f .below))) (f .none-before) j;
             rows = p .1;
           })
-      made a e (nowhere f) = none e (λ m i. said m f i)
+      made a e (nowhere f) = none e (λ m i. earlier m 3 (mode-below m) f i)
 
       go : (tableKeeps t ≡ true) ⊎ (tableKeeps t ≡ false) → Answers t (fitsOf t)
       go (inr e) = subst (Answers t) (fits-unsound t e) (unsound e)

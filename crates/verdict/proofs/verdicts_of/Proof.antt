@@ -8,12 +8,12 @@ use borrow.Author.Tests.{not-true, not-false}
 use borrow.Author.Needs.{needs}
 use Rattle.table.specs.Rules.{tableKeeps}
 use Rattle.table.proofs.Rules.{few-servers}
-use Rattle.verdict.proofs.Fitting.{Written, none-written, row-written, all-written, none-kept}
+use Rattle.verdict.proofs.Fitting.{RowsWritten, none-written, row-written, all-written, none-kept}
 use Rattle.verdict.proofs.verdicts_of.Statement.{statement}
 use Rattle.verdict.proofs.verdicts_of.Tie as tie
 
 abbrev Inv-loop : tie.InvT-loop
-Inv-loop t n all₀ row₀ all row = (row ≤ n) × Written t row all
+Inv-loop t n all₀ row₀ all row = (row ≤ n) × RowsWritten t row all
 
 abbrev μ-loop : tie.MeasureT-loop
 μ-loop t n all₀ row₀ all row = n - row
