@@ -15,7 +15,7 @@ use Rattle.laws.proofs.Choice.{and-left, and-right, or-true-right, within-low, 
 use Rattle.decimal.specs.declared.Number.the-variants.{Value}
 use Rattle.decimal.specs.Number.{areDigits, numberForm, isNumber, worthFrom, readNumber}
 use Rattle.decimal.specs.Lines.{tab}
-use Rattle.run.specs.Values.{lineValues}
+use Rattle.events.specs.Values.{lineValues}
 use Rattle.lines.specs.EventLine.{eventLine}
 use Rattle.lines.proofs.EventLine.{Found, said-no-letter, said-release, said-tick, said-mark}
 use Rattle.lines.proofs.Cutting.{stored}

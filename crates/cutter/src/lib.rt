@@ -4,13 +4,13 @@
 
 use decimal::LINE_FEED;
 use decimal::Number;
+use events::Event;
+use events::EventLine;
+use events::LINE_VALUES;
+use events::Taking;
 use lines::Cut;
 use lines::Held;
 use lines::LONGEST_EVENT;
-use run::Event;
-use run::EventLine;
-use run::LINE_VALUES;
-use run::Taking;
 use table::Refusal;
 ghost use mathlib.Core.Path.{_≡_};
 ghost use mathlib.Core.Bool.{true};
@@ -21,7 +21,7 @@ ghost use lib.Seq.{sets};
 ghost use Rattle.bytes.specs.Bytes.{indexOf, slice};
 ghost use Rattle.laws.specs.Choice.{oneIf};
 ghost use Rattle.decimal.specs.Lines.{lineFeed};
-ghost use Rattle.run.specs.Values.{lineValues};
+ghost use Rattle.events.specs.Values.{lineValues};
 ghost use Rattle.lines.specs.EventLine.{eventLine};
 ghost use Rattle.lines.specs.HeldLine.{lineIn, heldOf, tooLong};
 ghost use Rattle.lines.specs.Cutting.{cutOf, cutFirst};

@@ -4,37 +4,37 @@ use mathlib.Core.Bool.{Bool, true, false}
 use mathlib.Core.List.{List}
 use Prim.Native.Nat.{ℕ}
 use Rattle.laws.proofs.Choice.{clash}
+use Rattle.table.specs.declared.Table.{Table}
+use Rattle.table.specs.Rows.{noTable}
 use Rattle.table.specs.Rules.{tableKeeps}
 use Rattle.text.specs.declared.Reading.{Reading}
 use Rattle.text.specs.declared.Reading.the-variants.{Taken, Refused, Equal}
+use Rattle.text.specs.Read.{read, shown}
 use Rattle.text.proofs.RoundTrip.{read-keeps}
 use Rattle.files.specs.declared.How.{How}
 use Rattle.files.specs.declared.How.the-variants.{On, End, Failed}
 use Rattle.files.specs.declared.given.Case.{Case}
 use Rattle.files.specs.declared.given.Case.the-variants.{Read as Answer, Unread}
 use Rattle.files.specs.declared.given.Given.{Given}
-use Rattle.files.specs.Handed.{givenOf, Handed}
+use Rattle.files.specs.Handed.{isRefused, caseOf, tableBy, Handed}
 
 answerIn : Case → Reading
 answerIn (Answer a) = a
 answerIn Unread = Equal 0 0
 
-isTaken : Reading → Bool
-isTaken Taken = true
-isTaken (Refused why line field) = false
-isTaken (Equal first second) = false
-
-keeps : (how : How) (text : List ℕ) → answerIn (givenOf how text .case) ≡ Taken →
-    tableKeeps (givenOf how text .table) ≡ true
-unfolding answerIn isTaken
-keeps On text e = read-keeps text e
-keeps End text e = read-keeps text e
-keeps Failed text e = absurd (clash (isTaken (Equal 0 0)) (ap isTaken e) refl)
+-- Of any kind of table: what holds of a table that the reader takes holds of one that is given as
+-- taken.
+pub taken-given : {T : Type 0} (P : T → Type 0) (how : How) (answer : Reading) (none table : T) →
+    (answer ≡ Taken → P table) → (a : Reading) → caseOf how answer ≡ Answer a → a ≡ Taken → P (tableBy how none table)
+unfolding answerIn
+taken-given P On answer none table p a e t = p (ap answerIn e ∙ t)
+taken-given P End answer none table p a e t = p (ap answerIn e ∙ t)
+taken-given P Failed answer none table p a e t = absurd (clash (isRefused (Equal 0 0)) refl (ap isRefused (ap answerIn e ∙ t)))
 
 pub given-keeps : (g : Given) → Handed g → (a : Reading) → g .case ≡ Answer a → a ≡ Taken →
     tableKeeps (g .table) ≡ true
-unfolding answerIn
 given-keeps g h a e t =
-    let same = h .given in
-    let taken = ap (λ (x : Given). answerIn (x .case)) (sym same) ∙ ap answerIn e ∙ t in
-    rw same (keeps (h .how) (h .text) taken)
+    let d = shown (read (h .text)) in
+    rw (h .given)
+    (taken-given (λ (x : Table). tableKeeps x ≡ true) (h .how) (d .answer) noTable (d .table) (read-keeps (h .text)) a
+    (sym (ap (λ (x : Given). x .case) (h .given)) ∙ e) t)

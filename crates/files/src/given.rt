@@ -1,4 +1,5 @@
-// The table that a program is given: read, or answered as refused.
+// The table that a program is given: read, or answered as refused. What does not speak of the table's
+// rows serves every kind of table.
 
 use crate::How;
 use lines::LONGEST_ANSWER;
@@ -6,10 +7,10 @@ use table::Table;
 use text::LONGEST_TEXT;
 use text::Reading;
 ghost use mathlib.Core.Path.{_≡_};
-ghost use Rattle.files.specs.Handed.{isFailed, givenOf, Handed};
+ghost use Rattle.files.specs.Handed.{isFailed, isRefused, givenOf, Handed};
 
 // One byte more than a text may have, so that a longer file shows.
-const ROOM: usize = LONGEST_TEXT + 1;
+pub const ROOM: usize = LONGEST_TEXT + 1;
 
 // What became of a table file: the reader's answer, or that it could not be read.
 pub enum Case {
@@ -23,7 +24,8 @@ pub struct Given {
     pub table: Table,
 }
 
-fn is_failed(how: How) -> bool
+// Whether a file could not be read.
+pub fn is_failed(how: How) -> bool
     ensures { λ r. ⌜ r ≡ isFailed how ⌝ }
 {
     match how {
@@ -52,14 +54,27 @@ fn given_of(how: How, text: &[u8]) -> Given
     }
 }
 
-// "A refused table prints only" its one line.
-fn say_refused(a: Reading) {
-    if let Reading::Taken = a {
-        return;
+fn is_refused(a: Reading) -> bool
+    ensures { λ r. ⌜ r ≡ isRefused a ⌝ }
+{
+    match a {
+        Reading::Taken => false,
+        Reading::Refused { .. } => true,
+        Reading::Equal { .. } => true,
     }
-    let mut line = [0u8; LONGEST_ANSWER];
-    let n = printer::put_refused(a, &mut line, 0);
-    crate::write_first(&line, n);
+}
+
+// Whether a table is refused; "A refused table prints only" its one line.
+pub fn say_refused(a: Reading) -> bool
+    ensures { λ r. ⌜ r ≡ isRefused a ⌝ }
+{
+    let refused = is_refused(a);
+    if refused {
+        let mut line = [0u8; LONGEST_ANSWER];
+        let n = printer::put_refused(a, &mut line, 0);
+        crate::write_first(&line, n);
+    }
+    refused
 }
 
 // The table in an open file; where it is refused, that is answered.

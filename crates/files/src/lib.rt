@@ -4,6 +4,7 @@
 // only call, and hand on.
 
 pub mod given;
+pub mod pieces;
 
 use decimal::is_same;
 use libc::STDERR_FILENO;
@@ -133,7 +134,7 @@ pub fn take_piece(fd: i32, buf: &mut [u8]) -> Taken
 }
 
 // What of a file fits the lent bytes. How the last read ended says whether that is all of it.
-fn take_whole(fd: i32, buf: &mut [u8]) -> Taken
+pub fn take_whole(fd: i32, buf: &mut [u8]) -> Taken
     ensures { λ r. ⌜ Counts (r .len) (now (buf .exit)) ⌝ }
 {
     let mut at = 0;

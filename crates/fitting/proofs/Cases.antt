@@ -15,13 +15,13 @@ use Rattle.verdict.specs.declared.Fits.the-variants.{Yes, No}
 use Rattle.verdict.specs.Verdict.{interference, meets, responseAt, verdictOf}
 use Rattle.verdict.specs.Fits.{verdictsOf, leastRow, fromVerdicts, fitsOf}
 use Rattle.run.specs.State.{withMode, withBudgets, fresh}
-use Rattle.run.specs.Sound.{soundServer, soundFront, soundTask, soundLast, soundCounts, soundState, sound}
+use Rattle.run.specs.Sound.{soundServer, soundTask, soundLast, soundCounts, soundState, sound}
 use Rattle.fitting.specs.Fits.{runFits}
 
 unfoldable computed : Unit {0}
 unfolding
     every least firstOf up allBelow sumBelow listed tableOf serverKeeps taskKeeps taskFault taskStands differ keeps tableKeeps
-    example interference meets responseAt verdictOf verdictsOf leastRow fromVerdicts fitsOf soundServer soundFront soundTask
+    example interference meets responseAt verdictOf verdictsOf leastRow fromVerdicts fitsOf soundServer soundTask
     soundLast soundCounts soundState sound runFits
 computed = tt
 

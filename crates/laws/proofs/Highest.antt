@@ -10,7 +10,7 @@ use borrow.Author.Tests.{lt-ltb, le-ltb, ltb-true, ltb-false}
 use borrow.Author.Count.{below-more}
 use Rattle.laws.specs.declared.Found.{Found}
 use Rattle.laws.specs.declared.Found.the-variants.{At, Nothing}
-use Rattle.laws.specs.Rows.{allBelow, highest}
+use Rattle.laws.specs.Rows.{allBelow, highest, foundBy}
 use Rattle.laws.proofs.Choice.{clash, and-true, true-or-false}
 use Rattle.laws.proofs.Search.{Searched, hit, miss, is-least}
 use Rattle.laws.proofs.Rows.{all-build, all-fails}
@@ -148,6 +148,50 @@ module _ (marked : ℕ → Bool) (priority : ℕ → ℕ) where
 
   pub highest-none : (n : ℕ) → highest n marked priority ≡ Nothing → (j : ℕ) → j < n → marked j ≡ false
   highest-none n e = rw e at (highest-picked n)
+
+-- A walk that keeps the highest marked row passed, by its number and its priority, priorities being at
+-- least 1: height 0 is nothing found.
+pub found-there : (height row : ℕ) → 0 < height → foundBy height row ≡ At row
+found-there zero row h = absurd (omega arith)
+found-there (suc height) row h = refl
+
+pub record Top (n : ℕ) (marked : ℕ → Bool) (priority : ℕ → ℕ) (height row : ℕ) : Type 0 where
+  pub picked : Picked n marked priority (foundBy height row)
+  pub level : 0 < height → height ≡ priority row
+
+module _ (marked : ℕ → Bool) (priority : ℕ → ℕ) where
+  pub top-none : (row : ℕ) → Top 0 marked priority 0 row
+  top-none row = record { picked = λ j h. absurd (omega arith); level = λ h. absurd (omega arith) }
+
+  pub top-skip : (n height row : ℕ) → Top n marked priority height row → marked n ≡ false →
+      Top (n + 1) marked priority height row
+  top-skip n height row p e =
+      record { picked = picked-skip marked priority n (foundBy height row) (p .picked) e; level = p .level }
+
+  pub top-take : (n height row : ℕ) → Top n marked priority height row → marked n ≡ true → height < priority n →
+      Top (n + 1) marked priority (priority n) n
+  top-take n height row p e l =
+      record
+      { picked = rw (found-there (priority n) n (omega arith)) (go height (p .picked) (p .level) l); level = λ h. refl }
+    where
+      go : (height : ℕ) → Picked n marked priority (foundBy height row) → (0 < height → height ≡ priority row) →
+          height < priority n →
+          Picked (n + 1) marked priority (At n)
+      go zero q v h = picked-new marked priority n q e
+      go (suc height) q v h = picked-take marked priority n row q e (omega (arith, v (omega arith)))
+
+  pub top-keep : (n height row : ℕ) → Top n marked priority height row → priority n ≤ height → 1 ≤ priority n →
+      Top (n + 1) marked priority height row
+  top-keep n height row p l g = record { picked = go height (p .picked) (p .level) l; level = p .level }
+    where
+      go : (height : ℕ) → Picked n marked priority (foundBy height row) → (0 < height → height ≡ priority row) →
+          priority n ≤ height →
+          Picked (n + 1) marked priority (foundBy height row)
+      go zero q v h = absurd (omega arith)
+      go (suc height) q v h = picked-keep marked priority n row q (omega (arith, v (omega arith)))
+
+  pub top-is : (n height row : ℕ) → Top n marked priority height row → foundBy height row ≡ highest n marked priority
+  top-is n height row p = picked-is marked priority n (foundBy height row) (p .picked)
 
 -- Where no two rows have one priority, the highest is the row above which none stands, said of what
 -- the mark means.

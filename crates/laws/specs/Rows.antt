@@ -5,6 +5,7 @@ use mathlib.Core.List.{List, [], _∷_}
 use Prim.Native.Nat.{ℕ, zero, suc, _+_}
 use lib.Dec.{ltb}
 use Rattle.laws.specs.declared.Found.{Found}
+use Rattle.laws.specs.declared.Found.the-variants.{At, Nothing}
 use Rattle.laws.specs.Search.{least}
 
 -- each row below n passes
@@ -31,6 +32,11 @@ listed (suc n) f = f 0 ∷ listed n (λ i. f (suc i))
 unfoldable pub highest : ℕ → (ℕ → Bool) → (ℕ → ℕ) → Found
 highest n marked priority =
     least (λ i. marked i && allBelow n (λ j. not (marked j && ltb (priority i) (priority j)))) 0 n
+
+-- the row that a walk found, by its priority: 0 is nothing found
+abbrev pub foundBy : ℕ → ℕ → Found
+foundBy zero row = Nothing
+foundBy (suc height) row = At row
 
 -- the list with each row i below n made anew by f i, the others as they were
 unfoldable pub anew : ℕ → (ℕ → ℕ → ℕ) → List ℕ → List ℕ

@@ -8,9 +8,9 @@ use Rattle.laws.specs.Choice.{every}
 use Rattle.laws.specs.Quoted.{bytes, lined}
 use Rattle.decimal.specs.Number.{areDigits, numberForm, isNumber, worthFrom}
 use Rattle.decimal.specs.Lines.{split, same}
-use Rattle.run.specs.declared.Event.the-variants.{Release, Tick}
-use Rattle.run.specs.declared.EventLine.{EventLine}
-use Rattle.run.specs.declared.EventLine.the-variants.{Of, Another}
+use Rattle.events.specs.declared.Event.the-variants.{Release, Tick}
+use Rattle.events.specs.declared.EventLine.{EventLine}
+use Rattle.events.specs.declared.EventLine.the-variants.{Of, Another}
 use Rattle.lines.specs.Words.{releaseLetter, tickLetter}
 use Rattle.lines.specs.EventLine.{releaseForm, tickForm, eventSaid, eventLine, closedLines, eventLines}
 use Rattle.lines.specs.HeldLine.{longest, tooLong, lineIn, heldOf}

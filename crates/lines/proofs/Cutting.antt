@@ -20,13 +20,13 @@ use Rattle.decimal.specs.Lines.{lineFeed, toFirst, split}
 use Rattle.decimal.proofs.Room.{sets-append}
 use Rattle.table.specs.declared.Refusal.the-variants.{RoomShort}
 use Rattle.text.specs.Standing.{isNil}
-use Rattle.run.specs.declared.Event.the-variants.{Release, Tick}
-use Rattle.run.specs.declared.EventLine.{EventLine}
-use Rattle.run.specs.declared.EventLine.the-variants.{Of, Another}
-use Rattle.run.specs.declared.Taking.the-variants.{Taken, Refused}
-use Rattle.run.specs.Values.{lineValues, allLineValues}
-use Rattle.run.specs.Many.{takingNumber}
-use Rattle.run.proofs.Values.{line-length, line-values-length}
+use Rattle.events.specs.declared.Event.the-variants.{Release, Tick}
+use Rattle.events.specs.declared.EventLine.{EventLine}
+use Rattle.events.specs.declared.EventLine.the-variants.{Of, Another}
+use Rattle.events.specs.declared.Taking.the-variants.{Taken, Refused}
+use Rattle.events.specs.Values.{lineValues, allLineValues}
+use Rattle.events.specs.Answers.{takingNumber}
+use Rattle.events.proofs.Values.{line-length, line-values-length}
 use Rattle.lines.specs.declared.Held.{Held}
 use Rattle.lines.specs.EventLine.{eventLine, closedLines, eventLines}
 use Rattle.lines.specs.HeldLine.{lineIn, heldOf}

@@ -17,8 +17,8 @@ use Rattle.decimal.specs.Number.{isNumber, worth, readNumber}
 use Rattle.decimal.specs.Lines.{tab, split, join, same}
 use Rattle.decimal.proofs.Lines.{lacks, split-part, split-whole, join-split, same-eq, number-lacks}
 use Rattle.decimal.proofs.Numbers.{number-long}
-use Rattle.run.specs.declared.Event.the-variants.{Release, Tick}
-use Rattle.run.specs.declared.EventLine.the-variants.{Of, Another}
+use Rattle.events.specs.declared.Event.the-variants.{Release, Tick}
+use Rattle.events.specs.declared.EventLine.the-variants.{Of, Another}
 use Rattle.lines.specs.HeldLine.{longest}
 use Rattle.lines.specs.EventLine.{releaseForm, tickForm, eventSaid, eventLine}
 

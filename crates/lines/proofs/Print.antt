@@ -13,12 +13,12 @@ use borrow.Author.Tests.{le-leb, lt-leb, leb-false, ne-eqb, eqb-false}
 use Rattle.laws.specs.Choice.{if_then_else_}
 use Rattle.laws.proofs.Choice.{if-ind, or-false}
 use Rattle.table.specs.declared.Refusal.the-variants.{RoomShort}
-use Rattle.run.specs.declared.Taking.the-variants.{Taken, Refused}
-use Rattle.run.specs.Values.{lineSaid, toldAt}
-use Rattle.run.specs.Many.{takingNumber}
+use Rattle.events.specs.declared.Taking.the-variants.{Taken, Refused}
+use Rattle.events.specs.Values.{lineSaid, toldAt}
+use Rattle.events.specs.Answers.{takingNumber}
 use Rattle.lines.specs.AnswerLine.{answerFields, closedLine}
 use Rattle.lines.specs.Print.{longestAnswer, answerText, linesLent, PrintedInto, printedFirst, printOf}
-use Rattle.run.proofs.Values.{told-drop}
+use Rattle.events.proofs.Values.{told-drop}
 
 -- line i of those that the numbers say, field by field
 abbrev pub fieldsAt : List ℕ → List ℕ → ℕ → List (List ℕ)

@@ -9,16 +9,16 @@ use Rattle.table.specs.declared.Refusal.the-variants.{Malformed}
 use Rattle.table.specs.Refusals.{numberOf}
 use Rattle.text.specs.declared.Reading.{Reading}
 use Rattle.text.specs.Read.{readingNumber, readingValues}
-use Rattle.run.specs.declared.Turn.{Turn}
-use Rattle.run.specs.declared.Turn.the-variants.{Run as Ran, Empty, Idle}
-use Rattle.run.specs.declared.Left.{Left}
-use Rattle.run.specs.declared.Left.the-variants.{Nobody, Done, Cut}
-use Rattle.run.specs.declared.TickAnswer.{TickAnswer}
-use Rattle.run.specs.declared.Event.the-variants.{Release, Tick}
-use Rattle.run.specs.declared.EventLine.{EventLine}
-use Rattle.run.specs.declared.EventLine.the-variants.{Of, Another}
-use Rattle.run.specs.declared.Told.{Told}
-use Rattle.run.specs.declared.Told.the-variants.{No, Released, Ticked}
+use Rattle.events.specs.declared.Turn.{Turn}
+use Rattle.events.specs.declared.Turn.the-variants.{Run as Ran, Empty, Idle}
+use Rattle.events.specs.declared.Left.{Left}
+use Rattle.events.specs.declared.Left.the-variants.{Nobody, Done, Cut}
+use Rattle.events.specs.declared.TickAnswer.{TickAnswer}
+use Rattle.events.specs.declared.Event.the-variants.{Release, Tick}
+use Rattle.events.specs.declared.EventLine.{EventLine}
+use Rattle.events.specs.declared.EventLine.the-variants.{Of, Another}
+use Rattle.events.specs.declared.Told.{Told}
+use Rattle.events.specs.declared.Told.the-variants.{No, Released, Ticked}
 use Rattle.lines.specs.Words.{releaseLetter, tickLetter, anotherLetter, okWord, noWord, runWord}
 use Rattle.lines.specs.Words.{emptyWord, idleWord, doneWord, cutWord, dash, tableWord, modeWord}
 

@@ -10,10 +10,10 @@ use Rattle.laws.specs.Choice.{if_then_else_, unless_say_else_}
 use Rattle.decimal.specs.Lines.{lineFeed}
 use Rattle.table.specs.declared.Refusal.the-variants.{RoomShort}
 use Rattle.text.specs.Standing.{isNil}
-use Rattle.run.specs.declared.EventLine.{EventLine}
-use Rattle.run.specs.declared.EventLine.the-variants.{Another}
-use Rattle.run.specs.declared.Taking.the-variants.{Taken, Refused}
-use Rattle.run.specs.Values.{allLineValues}
+use Rattle.events.specs.declared.EventLine.{EventLine}
+use Rattle.events.specs.declared.EventLine.the-variants.{Another}
+use Rattle.events.specs.declared.Taking.the-variants.{Taken, Refused}
+use Rattle.events.specs.Values.{allLineValues}
 use Rattle.lines.specs.declared.Held.{Held}
 use Rattle.lines.specs.declared.Cut.{Cut}
 use Rattle.lines.specs.EventLine.{eventLine}

@@ -8,9 +8,9 @@ use lib.ListN.{length, getD}
 use Rattle.laws.specs.Choice.{if_then_else_, every}
 use Rattle.decimal.specs.Number.{isNumber, worth}
 use Rattle.decimal.specs.Lines.{tab, lineFeed, split, same}
-use Rattle.run.specs.declared.Event.the-variants.{Release, Tick}
-use Rattle.run.specs.declared.EventLine.{EventLine}
-use Rattle.run.specs.declared.EventLine.the-variants.{Of, Another}
+use Rattle.events.specs.declared.Event.the-variants.{Release, Tick}
+use Rattle.events.specs.declared.EventLine.{EventLine}
+use Rattle.events.specs.declared.EventLine.the-variants.{Of, Another}
 use Rattle.lines.specs.Words.{releaseLetter, tickLetter}
 
 -- `R⇥task`

@@ -5,3 +5,6 @@ pub mod Cutting
 pub mod AnswerLine
 pub mod Print
 pub mod Night
+pub mod Serving
+pub mod Inner
+pub mod Pieces

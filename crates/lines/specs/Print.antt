@@ -7,9 +7,9 @@ use lib.Dec.{leb, eqb}
 use lib.ListN.{length, getD, drop}
 use Rattle.laws.specs.Choice.{unless_say_else_}
 use Rattle.table.specs.declared.Refusal.the-variants.{RoomShort}
-use Rattle.run.specs.declared.EventLine.{EventLine}
-use Rattle.run.specs.declared.Taking.the-variants.{Taken, Refused}
-use Rattle.run.specs.Values.{lineSaid, toldAt}
+use Rattle.events.specs.declared.EventLine.{EventLine}
+use Rattle.events.specs.declared.Taking.the-variants.{Taken, Refused}
+use Rattle.events.specs.Values.{lineSaid, toldAt}
 use Rattle.lines.specs.declared.Printed.{Printed}
 use Rattle.lines.specs.AnswerLine.{answerFields, closedLine}
 

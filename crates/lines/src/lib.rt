@@ -1,7 +1,11 @@
 // Event lines and answer lines. (01, One night in full.) Which line says what is in specs/; the code
-// stands in crates cutter, bytes to event lines, and printer, what is told to them to bytes.
+// stands in crates cutter, bytes to event lines, and printer, what is told to them to bytes. Here is
+// only how many lines are taken at once, the same whatever box they are told to.
 
-use run::Taking;
+use events::Taking;
+ghost use mathlib.Core.Path.{_≡_};
+ghost use Prim.Native.Nat.{min};
+ghost use Rattle.lines.specs.Serving.{linesAtOnce};
 
 // The longest event line: a letter, a tab and 11 digits.
 pub const LONGEST_EVENT: usize = 13;
@@ -31,4 +35,25 @@ pub struct Printed {
     pub answer: Taking,
     pub many: usize,
     pub put: usize,
+}
+
+// So many lines at most are taken at once.
+pub const BATCH: usize = 1024;
+
+// The smaller of two numbers.
+pub fn smaller_of(a: usize, b: usize) -> usize
+    ensures { λ r. ⌜ r ≡ min a b ⌝ }
+{
+    if a < b {
+        return a;
+    }
+    b
+}
+
+// How many lines a room surely holds the answers of, at most a batch.
+pub fn lines_at_once(room: usize) -> usize
+    ensures { λ r. ⌜ r ≡ linesAtOnce room ⌝ }
+{
+    let fit = room / LONGEST_ANSWER;
+    smaller_of(fit, BATCH)
 }

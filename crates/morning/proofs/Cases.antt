@@ -23,16 +23,18 @@ use Rattle.table.specs.Pairs.{laterEqual, firstPair}
 use Rattle.text.specs.Words.{tickWord, serverWord, taskWord, eventWord, timedWord, loWord, miWord, hiWord}
 use Rattle.text.specs.Line.{tickForm, serverForm, taskForm, fieldTests, formTests, lineBy, lineOf, readLine}
 use Rattle.text.specs.Standing.{placed, serverBounds, taskBounds, bounds, serverWhole, wholes, fault, standing, grown}
-use Rattle.text.specs.Read.{compared, ended, readFrom, read, shown}
-use Rattle.run.specs.declared.Event.{Event}
-use Rattle.run.specs.declared.Event.the-variants.{Release, Tick}
+use Rattle.text.specs.Read.{compared, ended, read, shown}
+use Rattle.events.specs.declared.Event.{Event}
+use Rattle.events.specs.declared.Event.the-variants.{Release, Tick}
+use Rattle.events.specs.Boxes.{afterIn, answersIn}
 use Rattle.run.specs.State.{waits, someWaits}
-use Rattle.run.specs.Sound.{sound, soundState, soundServer, soundTask, soundFront, soundLast, soundCounts}
+use Rattle.run.specs.Sound.{sound, soundState, soundServer, soundTask, soundLast, soundCounts}
 use Rattle.run.specs.Release.{freshRun, releaseOf}
 use Rattle.run.specs.Tick.{judge, step1, drops, discards, step2, step3, step4, settle, able, highestAble, highestTask}
 use Rattle.run.specs.Tick.{choose, advance, tickTaken, tickOf}
 use Rattle.run.specs.Events.{after, answers}
-use Rattle.run.specs.Count.{overAll, discardedOf}
+use Rattle.events.specs.Count.{overAll}
+use Rattle.run.specs.Count.{discardedOf}
 use Rattle.run.specs.Found.{takenTicks}
 use Rattle.table.specs.Example.{byMode, server, task, rows, example}
 use Rattle.lines.specs.EventLine.{releaseForm, tickForm as tickLineForm, eventSaid, eventLine, closedLines, eventLines}
@@ -78,10 +80,10 @@ unfolding
     digits split join closed same tableOf tableKeeps keeps serverKeeps taskKeeps taskFault taskStands differ laterEqual
     firstPair tickWord serverWord taskWord eventWord timedWord loWord miWord hiWord tickForm serverForm
     taskForm fieldTests formTests lineBy lineOf readLine placed serverBounds taskBounds bounds serverWhole wholes fault standing grown
-    compared ended readFrom read shown waits someWaits
-    sound soundState soundServer soundTask soundFront soundLast soundCounts releaseOf judge step1
-    drops discards step2 step3 step4 settle able highestAble highestTask choose advance tickTaken tickOf after
-    answers overAll discardedOf takenTicks releaseForm tickLineForm eventSaid eventLine closedLines eventLines example
+    compared ended read shown waits someWaits
+    sound soundState soundServer soundTask soundLast soundCounts releaseOf judge step1
+    drops discards step2 step3 step4 settle able highestAble highestTask choose advance tickTaken tickOf afterIn
+    answersIn overAll discardedOf takenTicks releaseForm tickLineForm eventSaid eventLine closedLines eventLines example
     eventsIn passedOver rowFrom longestRow rowLines pageLines morningLines report without lows
 computed = tt
 

@@ -23,25 +23,27 @@ use Rattle.table.specs.Rows.{taskPriorityAt}
 use Rattle.table.proofs.Rules.{TableRules, table-rules}
 use Rattle.run.specs.declared.State.{State}
 use Rattle.run.specs.declared.Run.{Run}
-use Rattle.run.specs.declared.Turn.{Turn}
-use Rattle.run.specs.declared.Turn.the-variants.{Run as Ran, Empty, Idle}
-use Rattle.run.specs.declared.Left.{Left}
-use Rattle.run.specs.declared.Left.the-variants.{Nobody, Done, Cut}
-use Rattle.run.specs.declared.Event.{Event}
-use Rattle.run.specs.declared.Event.the-variants.{Release, Tick}
+use Rattle.events.specs.declared.Turn.{Turn}
+use Rattle.events.specs.declared.Turn.the-variants.{Run as Ran, Empty, Idle}
+use Rattle.events.specs.declared.Left.{Left}
+use Rattle.events.specs.declared.Left.the-variants.{Nobody, Done, Cut}
+use Rattle.events.specs.declared.Event.{Event}
+use Rattle.events.specs.declared.Event.the-variants.{Release, Tick}
 use Rattle.run.specs.declared.Answered.{Answered}
 use Rattle.run.specs.State.{waits, waitsFor}
 use Rattle.run.specs.Sound.{sound}
-use Rattle.run.specs.Answers.{charged}
+use Rattle.events.specs.Answers.{charged}
 use Rattle.table.specs.Rows.{modeValue}
 use Rattle.run.specs.Tick.{settle, highestTask, choose, tickTaken}
 use Rattle.run.specs.Events.{eventOf}
 use Rattle.run.specs.Found.{TakenTick, tickTakenSo, takenBy, takenTicks, priorityFound, topPriority}
 use Rattle.run.proofs.Taken.{tick-ind}
 use Rattle.run.proofs.Shape.{RunShaped, event-table, event-run-shaped}
-use Rattle.run.proofs.Tick.{charged-able, one-same}
+use Rattle.run.proofs.Tick.{charged-able}
+use Rattle.events.proofs.Answers.{one-same}
 use Rattle.run.proofs.Sound.{sound-table, sound-state}
-use Rattle.run.proofs.Count.{LeftBelow, left-below}
+use Rattle.events.proofs.Count.{LeftBelow}
+use Rattle.run.proofs.Count.{left-below}
 use Rattle.run.proofs.Kept.{event-keeps}
 use Rattle.morning.specs.Numbers.{rowFrom, longestRow}
 use Rattle.morning.specs.Inner.{overTicks, rowTo, ServerBelow, TaskBelow, TickFits, AllFit, Counted}

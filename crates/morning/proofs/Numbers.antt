@@ -7,20 +7,22 @@ use Prim.Native.Nat.{ℕ, _+_, _≤_}
 use native.Mathlib.Omega.{arith}
 use lib.ListN.{length, length-append}
 use Rattle.table.specs.declared.Table.{Table}
+use Rattle.events.specs.Boxes.{afterIn, afterLinesIn, answersIn}
 use Rattle.run.specs.declared.Run.{Run}
-use Rattle.run.specs.declared.Left.{Left}
-use Rattle.run.specs.declared.TickAnswer.{TickAnswer}
-use Rattle.run.specs.declared.Event.{Event}
-use Rattle.run.specs.declared.Event.the-variants.{Release, Tick}
-use Rattle.run.specs.declared.EventLine.{EventLine}
-use Rattle.run.specs.declared.EventLine.the-variants.{Of, Another}
-use Rattle.run.specs.declared.Answer.{Answer}
-use Rattle.run.specs.declared.Answer.the-variants.{Released, Ticked, No}
+use Rattle.events.specs.declared.Left.{Left}
+use Rattle.events.specs.declared.TickAnswer.{TickAnswer}
+use Rattle.events.specs.declared.Event.{Event}
+use Rattle.events.specs.declared.Event.the-variants.{Release, Tick}
+use Rattle.events.specs.declared.EventLine.{EventLine}
+use Rattle.events.specs.declared.EventLine.the-variants.{Of, Another}
+use Rattle.events.specs.declared.Answer.{Answer}
+use Rattle.events.specs.declared.Answer.the-variants.{Released, Ticked, No}
 use Rattle.run.specs.declared.Answered.{Answered}
 use Rattle.run.specs.Release.{freshRun}
 use Rattle.run.specs.Tick.{settle}
 use Rattle.run.specs.Events.{eventOf, after, answers}
-use Rattle.run.specs.Count.{overAll, byLeft, ifTicked, discardedBy, discardedOf}
+use Rattle.events.specs.Count.{overAll, byLeft, ifTicked}
+use Rattle.run.specs.Count.{discardedBy, discardedOf}
 use Rattle.run.specs.Many.{afterLines, ticksAmong}
 use Rattle.run.specs.Found.{TakenTick, takenBy, takenTicks}
 use Rattle.run.proofs.Taken.{release-ind, tick-ind}
@@ -32,14 +34,14 @@ use Rattle.morning.specs.Inner.{overTicks}
 -- Some events and then others.
 pub taken-append : (r : Run) (es fs : List Event) →
     takenTicks r (es ++ fs) ≡ takenTicks r es ++ takenTicks (after r es) fs
-unfolding takenTicks after
+unfolding takenTicks afterIn
 taken-append r [] fs = refl
 taken-append r (e ∷ es) fs =
     ap (λ (ms : List TakenTick). takenBy r e (eventOf r e .answer) ++ ms) (taken-append (eventOf r e .run) es fs)
     ∙ sym (append-assoc (takenBy r e (eventOf r e .answer)) (takenTicks (eventOf r e .run) es) _)
 
 pub after-append : (r : Run) (es fs : List Event) → after r (es ++ fs) ≡ after (after r es) fs
-unfolding after
+unfolding afterIn
 after-append r [] fs = refl
 after-append r (e ∷ es) fs = after-append (eventOf r e .run) es fs
 
@@ -50,7 +52,7 @@ events-append (Of e ∷ ks) ls = ap (λ (es : List Event). e ∷ es) (events-app
 events-append (Another ∷ ks) ls = events-append ks ls
 
 pub after-lines : (r : Run) (ls : List EventLine) → afterLines r ls ≡ after r (eventsIn ls)
-unfolding afterLines after eventsIn
+unfolding afterLinesIn afterIn eventsIn
 after-lines r [] = refl
 after-lines r (Of e ∷ ls) = after-lines (eventOf r e .run) ls
 after-lines r (Another ∷ ls) = after-lines r ls
@@ -93,7 +95,7 @@ module _ (f : TickAnswer → ℕ) where
 
   pub over-answers : (r : Run) (es : List Event) →
       overAll (byTick f) (answers r es) ≡ overTicks (λ m. f (m .answer)) (takenTicks r es)
-  unfolding answers takenTicks overAll overTicks
+  unfolding answersIn takenTicks overAll overTicks
   over-answers r [] = refl
   over-answers r (e ∷ es) = over-now r e es (over-answers (eventOf r e .run) es)
 
@@ -153,7 +155,7 @@ ticks-now r (Tick mark) =
 
 pub ticks-taken : (r : Run) (es : List Event) →
     after r es .state .ticks .0 ≡ r .state .ticks .0 + length (takenTicks r es)
-unfolding after takenTicks
+unfolding afterIn takenTicks
 ticks-taken r [] = omega arith
 ticks-taken r (e ∷ es) =
     omega (

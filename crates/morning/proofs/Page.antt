@@ -8,8 +8,8 @@ use Rattle.table.specs.declared.Mode.{Mode}
 use Rattle.table.specs.declared.Mode.the-variants.{N, D1, D2}
 use Rattle.table.specs.declared.Table.{Table}
 use Rattle.run.specs.declared.Run.{Run}
-use Rattle.run.specs.declared.Event.{Event}
-use Rattle.run.specs.Answers.{charged, finishedBy, cutBy}
+use Rattle.events.specs.declared.Event.{Event}
+use Rattle.events.specs.Answers.{charged, finishedBy, cutBy}
 use Rattle.run.specs.Events.{after}
 use Rattle.run.specs.Found.{takenTicks}
 use Rattle.morning.specs.Numbers.{emptyTurn, inThisMode, ServerNumbers, TaskNumbers}

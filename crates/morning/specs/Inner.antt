@@ -10,12 +10,12 @@ use Rattle.laws.specs.Choice.{if_then_else_}
 use Rattle.laws.specs.Rows.{sumBelow}
 use Rattle.table.specs.declared.Mode.{Mode}
 use Rattle.table.specs.declared.Table.{Table}
-use Rattle.run.specs.declared.Turn.{Turn}
-use Rattle.run.specs.declared.Turn.the-variants.{Run as Ran, Empty, Idle}
-use Rattle.run.specs.declared.Left.{Left}
-use Rattle.run.specs.declared.Left.the-variants.{Nobody, Done, Cut}
+use Rattle.events.specs.declared.Turn.{Turn}
+use Rattle.events.specs.declared.Turn.the-variants.{Run as Ran, Empty, Idle}
+use Rattle.events.specs.declared.Left.{Left}
+use Rattle.events.specs.declared.Left.the-variants.{Nobody, Done, Cut}
 use Rattle.run.specs.State.{waits}
-use Rattle.run.specs.Answers.{charged, finishedBy, cutBy}
+use Rattle.events.specs.Answers.{charged, finishedBy, cutBy}
 use Rattle.table.specs.Rows.{modeValue}
 use Rattle.run.specs.Found.{TakenTick, topPriority}
 use Rattle.morning.specs.Numbers.{emptyTurn, passedOver, longestWait, inThisMode}

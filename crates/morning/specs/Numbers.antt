@@ -9,19 +9,20 @@ use Rattle.laws.specs.Choice.{if_then_else_, larger}
 use Rattle.table.specs.declared.Mode.{Mode}
 use Rattle.table.specs.declared.Table.{Table}
 use Rattle.run.specs.declared.Run.{Run}
-use Rattle.run.specs.declared.Turn.{Turn}
-use Rattle.run.specs.declared.Turn.the-variants.{Run as Ran, Empty, Idle}
-use Rattle.run.specs.declared.TickAnswer.{TickAnswer}
-use Rattle.run.specs.declared.Answer.{Answer}
-use Rattle.run.specs.declared.Answer.the-variants.{Released, Ticked, No}
-use Rattle.run.specs.declared.Event.{Event}
-use Rattle.run.specs.declared.EventLine.{EventLine}
-use Rattle.run.specs.declared.EventLine.the-variants.{Of, Another}
+use Rattle.events.specs.declared.Turn.{Turn}
+use Rattle.events.specs.declared.Turn.the-variants.{Run as Ran, Empty, Idle}
+use Rattle.events.specs.declared.TickAnswer.{TickAnswer}
+use Rattle.events.specs.declared.Answer.{Answer}
+use Rattle.events.specs.declared.Answer.the-variants.{Released, Ticked, No}
+use Rattle.events.specs.declared.Event.{Event}
+use Rattle.events.specs.declared.EventLine.{EventLine}
+use Rattle.events.specs.declared.EventLine.the-variants.{Of, Another}
 use Rattle.run.specs.State.{waits, waitingAt}
-use Rattle.run.specs.Answers.{one, charged}
+use Rattle.events.specs.Answers.{one, charged}
 use Rattle.table.specs.Rows.{modeValue}
 use Rattle.run.specs.Events.{after, answers}
-use Rattle.run.specs.Count.{overAll, finishedOf, cutOf, discardedOf}
+use Rattle.events.specs.Count.{overAll, finishedOf, cutOf}
+use Rattle.run.specs.Count.{discardedOf}
 use Rattle.run.specs.Found.{TakenTick, takenTicks}
 
 -- "refused lines count nowhere": another line is no event; what becomes of an event, its answer says

@@ -11,7 +11,7 @@ use Rattle.text.specs.declared.Reading.{Reading}
 use Rattle.text.specs.declared.Reading.the-variants.{Taken, Refused, Equal}
 use Rattle.text.specs.Read.{read, shown}
 use Rattle.run.specs.declared.Run.{Run}
-use Rattle.run.specs.declared.Event.{Event}
+use Rattle.events.specs.declared.Event.{Event}
 use Rattle.run.specs.Release.{freshRun}
 use Rattle.lines.specs.Words.{modeWord}
 use Rattle.lines.specs.EventLine.{eventLines}

@@ -1,28 +1,24 @@
 // night TABLE EVENTS: the answers to an event file, from a fresh start with a table. (01, One night
 // in full.) The file is read in pieces; the line that is not closed yet is held, so the cutting
 // into reads does not show. Every byte of an answer is made by `next`, which neither reads nor
-// writes (specs/Pieces.antt); the loop around it only reads, calls it and writes.
+// writes (specs/Pieces.antt); the loop around it only reads, calls it and writes. (crates/frame is
+// the same for a frame box.)
 
 use files::How;
 use files::given::Case;
+use files::pieces::PIECE;
+use files::pieces::ROOM;
+use files::pieces::answer_last;
 use libc::STDERR_FILENO;
+use lines::BATCH;
 use lines::Held;
 use lines::LONGEST_ANSWER;
+use lines::smaller_of;
 use run::Run;
-use serving::BATCH;
 use text::Reading;
 ghost use mathlib.Core.Path.{_≡_};
-ghost use Prim.Native.Nat.{_≤_, min};
-ghost use lib.ListN.{length, take};
-ghost use Rattle.lines.specs.HeldLine.{lineIn, heldOf};
-ghost use Rattle.lines.specs.Print.{longestAnswer};
-ghost use Rattle.night.specs.Pieces.{standing, pieceOf, lastText, turnOf, Ready, Lent};
-
-// The event file is read in pieces of so many bytes.
-const PIECE: usize = 4096;
-
-// Each byte of a piece may close a line, and each answer be as long as the longest.
-const ROOM: usize = PIECE * LONGEST_ANSWER;
+ghost use Rattle.files.specs.Turns.{Lent};
+ghost use Rattle.night.specs.Pieces.{standing, pieceOf, turnOf, NightReady};
 
 // A night so far: the run, the line that is held, how many bytes were made for the writer last, and
 // whether it goes on.
@@ -33,23 +29,13 @@ struct Night {
     going: bool,
 }
 
-// The smaller of two numbers.
-fn smaller_of(a: usize, b: usize) -> usize
-    ensures { λ r. ⌜ r ≡ min a b ⌝ }
-{
-    if a < b {
-        return a;
-    }
-    b
-}
-
 // All of a piece: a batch of lines at a time, each into the room behind the answers before.
 fn answer_piece(n: Night, bytes: &[u8], room: &mut [u8]) -> Night
-    requires { ⌜ Ready n ⌝ }
+    requires { ⌜ NightReady n ⌝ }
     requires { ⌜ Lent (now bytes) (now room) ⌝ }
     ensures { λ r.
         ⌜ standing r (now (room .exit)) ≡ pieceOf (n .run) (n .held) (now (bytes .entry)) ⌝ }
-    ensures { λ r. ⌜ Ready r ⌝ }
+    ensures { λ r. ⌜ NightReady r ⌝ }
 {
     let mut run = n.run;
     let mut held = n.held;
@@ -72,25 +58,13 @@ fn answer_piece(n: Night, bytes: &[u8], room: &mut [u8]) -> Night
     }
 }
 
-// "or an unclosed last one": it is answered as another line.
-fn answer_last(h: Held, room: &mut [u8]) -> usize
-    requires { ⌜ h ≡ heldOf (lineIn h) ⌝ }
-    requires { ⌜ longestAnswer ≤ length (now room) ⌝ }
-    ensures { λ r. ⌜ take r (now (room .exit)) ≡ lastText (lineIn h) ⌝ }
-{
-    if 0 < h.len {
-        return printer::put_another(room, 0);
-    }
-    0
-}
-
 // One turn: what was read is answered; at the end of the file, the line that is held.
 fn next(n: Night, how: How, bytes: &[u8], room: &mut [u8]) -> Night
-    requires { ⌜ Ready n ⌝ }
+    requires { ⌜ NightReady n ⌝ }
     requires { ⌜ Lent (now bytes) (now room) ⌝ }
     ensures { λ r.
         ⌜ standing r (now (room .exit)) ≡ turnOf (n .run) (n .held) how (now (bytes .entry)) ⌝ }
-    ensures { λ r. ⌜ Ready r ⌝ }
+    ensures { λ r. ⌜ NightReady r ⌝ }
 {
     match how {
         How::On => answer_piece(n, bytes, room),
@@ -113,7 +87,7 @@ fn next(n: Night, how: How, bytes: &[u8], room: &mut [u8]) -> Night
 
 // The whole file. Nothing else reads or writes.
 fn answer_all(n: Night, fd: i32)
-    requires { ⌜ Ready n ⌝ }
+    requires { ⌜ NightReady n ⌝ }
 {
     let mut night = n;
     let mut piece = [0u8; PIECE];

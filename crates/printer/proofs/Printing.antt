@@ -6,7 +6,7 @@ use Prim.Native.Nat.{ℕ, suc, _+_, _*_, _≤_, _<_}
 use native.Mathlib.Omega.{arith}
 use lib.ListN.{length}
 use lib.Seq.{length-sets}
-use Rattle.run.specs.declared.Taking.the-variants.{Taken}
+use Rattle.events.specs.declared.Taking.the-variants.{Taken}
 use Rattle.lines.specs.AnswerLine.{closedLine}
 use Rattle.lines.specs.Print.{answerText, PrintedInto, printedFirst}
 use Rattle.lines.proofs.Print.{fieldsAt, text-next}

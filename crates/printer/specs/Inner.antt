@@ -5,11 +5,11 @@ use Prim.Native.Nat.{ℕ, _+_, _≤_}
 use lib.ListN.{length, getD}
 use lib.Seq.{sets}
 use Rattle.decimal.specs.Lines.{tab, lineFeed}
-use Rattle.run.specs.declared.Told.{Told}
-use Rattle.run.specs.declared.EventLine.{EventLine}
-use Rattle.run.specs.declared.TickAnswer.{TickAnswer}
+use Rattle.events.specs.declared.Told.{Told}
+use Rattle.events.specs.declared.EventLine.{EventLine}
+use Rattle.events.specs.declared.TickAnswer.{TickAnswer}
 use Rattle.table.specs.Rows.{modeSaid}
-use Rattle.run.specs.Values.{turnSaid, leftSaid, lineSaid, toldSaid}
+use Rattle.events.specs.Values.{turnSaid, leftSaid, lineSaid, toldSaid}
 use Rattle.printer.specs.declared.LineValues.{LineValues}
 use Rattle.printer.specs.declared.ToldValues.{ToldValues}
 

@@ -1,12 +1,12 @@
 // What plain numbers say of a tick: what it says, and how a job left.
 // (Rattle.run.specs.Values.)
 
-use run::Event;
-use run::EventLine;
-use run::Left;
-use run::Turn;
+use events::Event;
+use events::EventLine;
+use events::Left;
+use events::Turn;
 ghost use mathlib.Core.Path.{_≡_};
-ghost use Rattle.run.specs.Values.{turnSaid, leftSaid, lineSaid};
+ghost use Rattle.events.specs.Values.{turnSaid, leftSaid, lineSaid};
 
 pub(crate) fn turn_said(w: u64, server: u64, task: u64) -> Turn
     ensures { λ r. ⌜ r ≡ turnSaid w server task ⌝ }

@@ -16,22 +16,24 @@ use Rattle.text.specs.declared.Reading.{Reading}
 use Rattle.text.specs.declared.Reading.the-variants.{Taken, Refused, Equal}
 use Rattle.text.specs.Read.{read, shown}
 use Rattle.text.proofs.RoundTrip.{read-keeps, read-sized}
+use Rattle.events.specs.Boxes.{afterLinesIn}
 use Rattle.run.specs.declared.Run.{Run}
 use Rattle.run.specs.declared.Finding.{Finding}
-use Rattle.run.specs.declared.Event.{Event}
-use Rattle.run.specs.declared.EventLine.{EventLine}
-use Rattle.run.specs.declared.EventLine.the-variants.{Of, Another}
+use Rattle.events.specs.declared.Event.{Event}
+use Rattle.events.specs.declared.EventLine.{EventLine}
+use Rattle.events.specs.declared.EventLine.the-variants.{Of, Another}
 use Rattle.run.specs.Sound.{sound}
 use Rattle.run.specs.Release.{freshRun}
-use Rattle.run.specs.Events.{eventOf}
-use Rattle.run.specs.Values.{linesSaid, allLineValues}
+use Rattle.run.specs.Events.{eventOf, theBox}
+use Rattle.events.specs.Values.{linesSaid, allLineValues}
 use Rattle.run.specs.Found.{TakenTick, takenTicks, allFound, allTold}
 use Rattle.run.specs.Many.{afterLines, ticksAmong, LentBoth, takenFinding, findOf}
 use Rattle.run.proofs.Shape.{RunShaped, fresh-run-shaped, event-table}
 use Rattle.run.proofs.Kept.{fresh-keeps}
-use Rattle.run.proofs.Values.{lines-back, line-values-length}
+use Rattle.events.proofs.Values.{lines-back, line-values-length}
 use Rattle.run.proofs.Found.{all-told-length, all-found-length}
-use Rattle.run.proofs.ManyLines.{after-append, lines-keep, find-taken}
+use Rattle.events.proofs.Boxes.{after-append}
+use Rattle.run.proofs.ManyLines.{lines-keep, find-taken}
 use Rattle.lines.specs.declared.Held.{Held}
 use Rattle.lines.specs.declared.Cut.{Cut}
 use Rattle.lines.specs.HeldLine.{lineIn, heldOf}
@@ -62,7 +64,7 @@ ticks-join r ks ls =
 
 -- no line changes the table
 lines-table : (r : Run) (ls : List EventLine) → afterLines r ls .table ≡ r .table
-unfolding afterLines
+unfolding afterLinesIn
 lines-table r [] = refl
 lines-table r (Of e ∷ ls) = lines-table (eventOf r e .run) ls ∙ event-table r e
 lines-table r (Another ∷ ls) = lines-table r ls
@@ -292,7 +294,7 @@ module _ {s : Stand} {bytes : List ℕ} {at : ℕ} {z : Stand} {values told foun
               (record {
                 run =
                     ap (λ (x : LentBoth). x .finding .run) found-is ∙
-                    ap (λ (r : Run). afterLines r lines) (a .run) ∙ sym (after-append (freshRun t) before lines) ∙
+                    ap (λ (r : Run). afterLines r lines) (a .run) ∙ sym (after-append theBox (freshRun t) before lines) ∙
                     sym (ap (afterLines (freshRun t)) all);
                 held =
                     cut-held ∙ sym (alike-left first (lineIn (z .held)) some same) ∙
@@ -357,7 +359,7 @@ page-of s text e t file a =
 
 -- A file read in any pieces: the page is the report of the file.
 pub start-after : (t : Table) → Sized t → tableKeeps t ≡ true → After t [] (startWith t)
-unfolding linesIn leftIn afterLines takenTicks eventsIn
+unfolding linesIn leftIn afterLinesIn takenTicks eventsIn
 start-after t z k =
     let r = table-rules t z k in
     record {

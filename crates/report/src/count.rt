@@ -2,14 +2,14 @@
 // hands out of it: what is told (crate run's specs/Values.antt) and what steps 5 and 2 found
 // (specs/Found.antt). They stand in three arrays, a column after the other.
 
+use events::TOLD_DISCARDED;
+use events::TOLD_HOW;
+use events::TOLD_MODE;
+use events::TOLD_SERVER;
+use events::TOLD_TASK;
+use events::TOLD_VALUES;
+use events::TOLD_WHAT;
 use run::FOUND_VALUES;
-use run::TOLD_DISCARDED;
-use run::TOLD_HOW;
-use run::TOLD_MODE;
-use run::TOLD_SERVER;
-use run::TOLD_TASK;
-use run::TOLD_VALUES;
-use run::TOLD_WHAT;
 use table::MODES;
 use table::SERVERS;
 use table::TASKS;

@@ -8,15 +8,15 @@ mod page;
 
 use count::SERVER_COUNTS;
 use count::TASK_COUNTS;
+use events::LINE_VALUES;
+use events::TOLD_VALUES;
 use files::How;
 use files::given::Case;
 use libc::STDERR_FILENO;
 use lines::Held;
 use page::ROOM;
 use run::FOUND_VALUES;
-use run::LINE_VALUES;
 use run::Run;
-use run::TOLD_VALUES;
 use table::MODES;
 use text::Reading;
 ghost use mathlib.Core.Path.{_≡_};

@@ -80,7 +80,7 @@ fn put_task(
         ⌜ LinesPut (taskLineIn (now (tasks .entry)) (now (waiting .entry)) i ∷ [])
         (now (room .entry)) at (now (room .exit)) r ⌝ }
 {
-    let waits = run::job_count(waiting[i]);
+    let waits = queues::job_count(waiting[i]);
     let k = put_all(b"task", room, at);
     let k = put_field(i as u64, room, k);
     let k = put_field(tasks[FINISHED + i], room, k);

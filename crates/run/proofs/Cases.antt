@@ -16,20 +16,21 @@ use Rattle.table.specs.declared.Mode.the-variants.{N, D1, D2}
 use Rattle.table.specs.declared.Table.{Table}
 use Rattle.table.specs.Rows.{tableOf}
 use Rattle.table.specs.Rules.{tableKeeps, keeps, serverKeeps, taskKeeps, taskFault, taskStands, differ}
-use Rattle.run.specs.declared.Last.the-variants.{Job}
+use Rattle.queues.specs.declared.Last.the-variants.{Job}
+use Rattle.events.specs.Boxes.{afterIn, answersIn}
 use Rattle.run.specs.declared.State.{State}
-use Rattle.run.specs.declared.Turn.{Turn}
-use Rattle.run.specs.declared.Turn.the-variants.{Run as Ran, Empty, Idle}
-use Rattle.run.specs.declared.Left.{Left}
-use Rattle.run.specs.declared.Left.the-variants.{Nobody, Done, Cut}
-use Rattle.run.specs.declared.Event.{Event}
-use Rattle.run.specs.declared.Event.the-variants.{Release, Tick}
-use Rattle.run.specs.declared.Answer.{Answer}
-use Rattle.run.specs.declared.Answer.the-variants.{Released, Ticked, No}
+use Rattle.events.specs.declared.Turn.{Turn}
+use Rattle.events.specs.declared.Turn.the-variants.{Run as Ran, Empty, Idle}
+use Rattle.events.specs.declared.Left.{Left}
+use Rattle.events.specs.declared.Left.the-variants.{Nobody, Done, Cut}
+use Rattle.events.specs.declared.Event.{Event}
+use Rattle.events.specs.declared.Event.the-variants.{Release, Tick}
+use Rattle.events.specs.declared.Answer.{Answer}
+use Rattle.events.specs.declared.Answer.the-variants.{Released, Ticked, No}
 use Rattle.run.specs.State.{usedAt, elapsedAt, waitingAt, runsAt, waits, someWaits, withMode, withBudgets, withQueues}
 use Rattle.run.specs.State.{withLast, withCounts, fresh}
-use Rattle.run.specs.Sound.{soundServer, soundFront, soundTask, soundLast, soundCounts, soundState, sound}
-use Rattle.run.specs.Answers.{noOf}
+use Rattle.run.specs.Sound.{soundServer, soundTask, soundLast, soundCounts, soundState, sound}
+use Rattle.events.specs.Answers.{noOf}
 use Rattle.run.specs.Release.{freshRun, releaseOf}
 use Rattle.run.specs.Tick.{raises, judge, step1, drops, discards, step2, step3, step4, settle, able, highestAble, highestTask}
 use Rattle.run.specs.Tick.{choose, advance, tickTaken, tickOf}
@@ -90,9 +91,9 @@ levels =
 unfoldable computed : Unit {0}
 unfolding
     every least allBelow anyBelow sumBelow highest anew tableOf tableKeeps keeps serverKeeps taskKeeps
-    taskFault taskStands differ waits someWaits soundServer soundFront soundTask soundLast soundCounts soundState sound
+    taskFault taskStands differ waits someWaits soundServer soundTask soundLast soundCounts soundState sound
     releaseOf judge step1 drops discards step2 step3 step4 settle able highestAble highestTask choose advance
-    tickTaken tickOf after answers example turns crossed tight levels
+    tickTaken tickOf afterIn answersIn example turns crossed tight levels
 computed = tt
 
 -- What one tick does.
@@ -251,7 +252,7 @@ no-10-release = refl
 -- a state in which so many jobs of task k wait, the front one after so many ticks
 abbrev queued : ℕ → ℕ → ℕ → State
 queued k waiting runs =
-    withCounts (withQueues fresh (set (fresh .waiting) k waiting) (set (fresh .runs) k runs)) (fresh .ticks) waiting
+    withCounts (withQueues fresh (record { waiting = set (fresh .waiting) k waiting; runs = set (fresh .runs) k runs })) (fresh .ticks) waiting
 
 -- a state with these counts of server i
 abbrev spent : ℕ → ℕ → ℕ → State

@@ -17,34 +17,32 @@ use Rattle.table.specs.Inner.{Sized}
 use Rattle.table.specs.Rows.{taskAt, isLow}
 use Rattle.table.specs.Rules.{tableKeeps}
 use Rattle.table.proofs.Rules.{TableRules, table-rules}
-use Rattle.run.specs.declared.Last.{Last}
-use Rattle.run.specs.declared.Last.the-variants.{NoJob, Job}
-use Rattle.run.specs.declared.Left.{Left}
-use Rattle.run.specs.declared.Left.the-variants.{Nobody, Done, Cut}
+use Rattle.queues.specs.declared.Last.{Last}
+use Rattle.queues.specs.declared.Last.the-variants.{NoJob, Job}
+use Rattle.events.specs.declared.Left.{Left}
+use Rattle.events.specs.declared.Left.the-variants.{Nobody, Done, Cut}
 use Rattle.run.specs.declared.State.{State}
 use Rattle.run.specs.declared.Run.{Run}
-use Rattle.run.specs.declared.Event.{Event}
-use Rattle.run.specs.declared.Event.the-variants.{Release, Tick}
+use Rattle.events.specs.declared.Event.{Event}
+use Rattle.events.specs.declared.Event.the-variants.{Release, Tick}
 use Rattle.run.specs.declared.Answered.{Answered}
-use Rattle.run.specs.State.{waitingAt, runsAt, fresh}
+use Rattle.run.specs.State.{queuesOf, waitingAt, runsAt, fresh}
 use Rattle.run.specs.Sound.{sound}
-use Rattle.run.specs.Answers.{one, finishedBy, cutBy}
+use Rattle.events.specs.Answers.{one, finishedBy, cutBy}
 use Rattle.run.specs.Release.{freshRun, withJob}
 use Rattle.run.specs.Tick.{Marked, judge, step1, enters, drops, discards, settle, tickTaken}
-use Rattle.run.specs.Events.{eventOf, after, answers}
-use Rattle.run.specs.Count.{overAll, byLeft, release, releaseBy, releasedIn, releasedOf, anyFinished, finishedIn}
-use Rattle.run.specs.Count.{finishedOf, anyCut, cutIn, cutOf, discarded, discardedIn, ifTicked, discardedBy, discardedOf}
+use Rattle.run.specs.Events.{eventOf, theBox, after, answers}
+use Rattle.events.specs.Boxes.{afterIn, answersIn}
+use Rattle.events.proofs.Count.{LeftBelow, sum-finished, sum-cut, jobs-in}
+use Rattle.queues.proofs.Queues.{joined-sum}
+use Rattle.events.specs.Count.{overAll, byLeft, release, releaseBy, releasedIn, releasedOf, anyFinished, finishedIn}
+use Rattle.events.specs.Count.{finishedOf, anyCut, cutIn, cutOf, discarded, discardedIn, ifTicked}
+use Rattle.run.specs.Count.{discardedBy, discardedOf}
 use Rattle.run.proofs.Taken.{release-ind, tick-ind}
 use Rattle.run.proofs.Shape.{Shaped, RunShaped, fresh-run-shaped, event-run-shaped, event-table}
 use Rattle.run.proofs.Sound.{LastSound, StateSound, sound-table, sound-state}
-use Rattle.run.proofs.Steps.{sum-one, waiting-settled, waiting-after}
+use Rattle.run.proofs.Steps.{waiting-settled, waiting-after}
 use Rattle.run.proofs.Kept.{waiting-released, event-keeps, fresh-keeps}
-
--- The job that left is of a row in use, so that the rows' counts sum up to what the answer says.
-abbrev pub LeftBelow : ℕ → Left → Type 0
-LeftBelow n Nobody = Unit {0}
-LeftBelow n (Done j) = j < n
-LeftBelow n (Cut j) = j < n
 
 pub left-below : (t : Table) (s : State) (mark : Bool) (l : Last) → LastSound t s l →
     LeftBelow (t .ntasks) (step1 t s mark l .left)
@@ -57,16 +55,6 @@ left-below t s false (Job j) q =
     (judge 3 (taskAt t j) (runsAt s j) (s .mode) .cut)
     (λ e. q .below)
     (λ e. tt)
-
-sum-finished : (n : ℕ) (l : Left) → LeftBelow n l → sumBelow n (finishedBy l) ≡ anyFinished l
-sum-finished n Nobody b = sum-zero (finishedBy Nobody) n (λ k h. refl)
-sum-finished n (Done j) b = sum-cong (finishedBy (Done j)) (one j) n (λ k h. refl) ∙ sum-one j n b
-sum-finished n (Cut j) b = sum-zero (finishedBy (Cut j)) n (λ k h. refl)
-
-sum-cut : (n : ℕ) (l : Left) → LeftBelow n l → sumBelow n (cutBy l) ≡ anyCut l
-sum-cut n Nobody b = sum-zero (cutBy Nobody) n (λ k h. refl)
-sum-cut n (Done j) b = sum-zero (cutBy (Done j)) n (λ k h. refl)
-sum-cut n (Cut j) b = sum-cong (cutBy (Cut j)) (one j) n (λ k h. refl) ∙ sum-one j n b
 
 -- A taken tick, and a taken release: the sum over the rows, task by task and in all.
 module _ (t : Table) (s : State) (mark : Bool) (rules : TableRules t) (h : Shaped s) (f : StateSound t s) where
@@ -100,20 +88,6 @@ module _ (t : Table) (s : State) (mark : Bool) (rules : TableRules t) (h : Shape
         sum-cut n l b,
       )
 
-pub release-jobs : (t : Table) (s : State) (k : ℕ) → t .ntasks ≤ 64 → Shaped s → k < t .ntasks →
-    sumBelow (t .ntasks) (waitingAt (withJob s k)) ≡ sumBelow (t .ntasks) (waitingAt s) + 1
-release-jobs t s k many h l =
-    omega (
-      arith,
-      sum-cong
-          (waitingAt (withJob s k))
-          (λ j. waitingAt s j + one k j)
-          (t .ntasks)
-          (λ j m. waiting-released s k j (omega (arith, h .waiting))),
-      sum-add (waitingAt s) (one k) (t .ntasks),
-      sum-one k (t .ntasks) l,
-    )
-
 -- One event, taken or refused.
 event-jobs : (r : Run) (e : Event) → RunShaped r → sound r ≡ true →
     sumBelow (r .table .ntasks) (waitingAt (eventOf r e .run .state)) +
@@ -134,7 +108,9 @@ event-jobs r (Release k) h q =
     (λ y.
     omega (
       arith,
-      release-jobs (r .table) (r .state) k (rules .tasks-high) (h .state) (ltb-true k (r .table .ntasks) (y .task)),
+      joined-sum (queuesOf (r .state)) (r .table .ntasks) k
+          (omega (arith, h .state .waiting, rules .tasks-high, ltb-true k (r .table .ntasks) (y .task)))
+          (ltb-true k (r .table .ntasks) (y .task)),
     ))
 event-jobs r (Tick mark) h q =
     let rules = table-rules (r .table) (h .table) (sound-table r q) in
@@ -181,34 +157,46 @@ event-jobs-of r (Tick mark) h q k l =
     (λ why. omega arith)
     (λ y. omega (arith, tick-jobs-of (r .table) (r .state) mark rules (h .state) (sound-state r q) k l))
 
--- Any events, from a sound run: what waited and what was released is finished, cut, discarded, or
--- waits.
+-- Any events, from a sound run of a table of n tasks: what waited and what was released is finished,
+-- cut, discarded, or waits.
+pub record SoundOf (n : ℕ) (r : Run) : Type 0 where
+  pub tasks : r .table .ntasks ≡ n
+  pub shaped : RunShaped r
+  pub sound : sound r ≡ true
+
+sound-of-keeps : (n : ℕ) (r : Run) (e : Event) → SoundOf n r → SoundOf n (eventOf r e .run)
+sound-of-keeps n r e h =
+    record {
+      tasks = ap (λ (t : Table). t .ntasks) (event-table r e) ∙ h .tasks;
+      shaped = event-run-shaped r e (h .shaped);
+      sound = event-keeps r e (h .shaped) (h .sound);
+    }
+
 pub jobs-from : (r : Run) (es : List Event) (n : ℕ) → r .table .ntasks ≡ n → RunShaped r → sound r ≡ true →
     sumBelow n (waitingAt (after r es .state)) +
     (finishedIn (answers r es) + cutIn (answers r es)) +
     discardedIn (answers r es) ≡
     sumBelow n (waitingAt (r .state)) + releasedIn (answers r es)
-unfolding after answers overAll
-jobs-from r [] n e h q = omega arith
-jobs-from r (x ∷ es) n e h q =
-    omega (
-      arith,
-      subst
-          (λ m.
-          sumBelow m (waitingAt (eventOf r x .run .state)) +
-          (byLeft anyFinished (eventOf r x .answer) + byLeft anyCut (eventOf r x .answer)) +
-          discarded (eventOf r x .answer) ≡
-          sumBelow m (waitingAt (r .state)) + release (eventOf r x .answer))
-          e
-          (event-jobs r x h q),
-      jobs-from (eventOf r x .run) es n (ap (λ (t : Table). t .ntasks) (event-table r x) ∙ e) (event-run-shaped r x h)
-          (event-keeps r x h q),
-    )
+jobs-from r es n e h q =
+    jobs-in theBox (SoundOf n) (sound-of-keeps n) (λ (r : Run). sumBelow n (waitingAt (r .state))) (byLeft anyFinished)
+    (byLeft anyCut) discarded release
+    (λ (r : Run) (x : Event) (h : SoundOf n r).
+    subst
+    (λ m.
+    sumBelow m (waitingAt (eventOf r x .run .state)) +
+    (byLeft anyFinished (eventOf r x .answer) + byLeft anyCut (eventOf r x .answer)) +
+    discarded (eventOf r x .answer) ≡
+    sumBelow m (waitingAt (r .state)) + release (eventOf r x .answer))
+    (h .tasks)
+    (event-jobs r x (h .shaped) (h .sound)))
+    r
+    es
+    (record { tasks = e; shaped = h; sound = q })
 
 pub jobs-from-of : (r : Run) (es : List Event) (k : ℕ) → k < r .table .ntasks → RunShaped r → sound r ≡ true →
     waitingAt (after r es .state) k + (finishedOf k (answers r es) + cutOf k (answers r es)) + discardedOf r es k ≡
     waitingAt (r .state) k + releasedOf k (answers r es)
-unfolding after answers overAll discardedOf
+unfolding afterIn answersIn overAll discardedOf
 jobs-from-of r [] k l h q = omega arith
 jobs-from-of r (x ∷ es) k l h q =
     let same = ap (λ (t : Table). t .ntasks) (event-table r x) in
@@ -263,7 +251,7 @@ discarded-event r (Tick mark) =
 
 pub discarded-by-task : (r : Run) (es : List Event) (n : ℕ) → r .table .ntasks ≡ n →
     discardedIn (answers r es) ≡ sumBelow n (discardedOf r es)
-unfolding answers overAll discardedOf
+unfolding answersIn overAll discardedOf
 discarded-by-task r [] n e = sym (sum-zero (discardedOf r []) n (λ k l. refl))
 discarded-by-task r (x ∷ es) n e =
     omega (

@@ -9,10 +9,10 @@ use lib.Seq.{getD-take, take-append-seam, getD-append-add}
 use Rattle.laws.specs.Rows.{anew}
 use Rattle.laws.proofs.Anew.{length-anew, anew-at}
 use Rattle.table.specs.declared.Table.{Table}
-use Rattle.run.specs.declared.Told.the-variants.{Ticked}
+use Rattle.events.specs.declared.Told.the-variants.{Ticked}
 use Rattle.run.specs.Found.{TakenTick, topPriority, foundValues, allFound, allTold}
-use Rattle.run.specs.Values.{toldValues}
-use Rattle.run.proofs.Values.{told-length}
+use Rattle.events.specs.Values.{toldValues}
+use Rattle.events.proofs.Values.{told-length}
 
 -- 32 numbers of servers, then 64 of tasks
 module _ (t : Table) (m : TakenTick) where

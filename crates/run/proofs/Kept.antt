@@ -22,28 +22,34 @@ use Rattle.table.specs.Rows.{serverAt, taskAt, periodAt, limitAt, inMode, isLow
 use Rattle.table.specs.Inner.{Sized}
 use Rattle.table.specs.Rules.{tableKeeps}
 use Rattle.table.proofs.Rules.{TableRules, table-rules}
-use Rattle.run.specs.declared.Last.{Last}
-use Rattle.run.specs.declared.Last.the-variants.{NoJob, Job}
+use Rattle.queues.specs.declared.Last.{Last}
+use Rattle.queues.specs.declared.Last.the-variants.{NoJob, Job}
 use Rattle.run.specs.declared.State.{State}
 use Rattle.run.specs.declared.Run.{Run}
-use Rattle.run.specs.declared.Event.{Event}
-use Rattle.run.specs.declared.Event.the-variants.{Release, Tick}
+use Rattle.events.specs.declared.Event.{Event}
+use Rattle.events.specs.declared.Event.the-variants.{Release, Tick}
 use Rattle.run.specs.declared.Answered.{Answered}
-use Rattle.run.specs.declared.Turn.{Turn}
-use Rattle.run.specs.declared.Turn.the-variants.{Run as Ran, Empty, Idle}
-use Rattle.run.specs.State.{usedAt, elapsedAt, waitingAt, runsAt, fresh}
-use Rattle.run.specs.Sound.{isLast, sound}
-use Rattle.run.specs.Answers.{one, ran}
+use Rattle.events.specs.declared.Turn.{Turn}
+use Rattle.events.specs.declared.Turn.the-variants.{Run as Ran, Empty, Idle}
+use Rattle.run.specs.State.{queuesOf, usedAt, elapsedAt, waitingAt, runsAt, fresh}
+use Rattle.queues.specs.Queues.{isLast}
+use Rattle.run.specs.Sound.{sound}
+use Rattle.events.specs.Answers.{one, ran}
+use Rattle.events.proofs.Answers.{one-past, one-same, same-or-not, charged-is}
+use Rattle.queues.proofs.Queues.{joined-waiting}
+use Rattle.queues.proofs.Sound.{joined-queue, joined-last, joined-counts, ran-queue}
 use Rattle.run.specs.Release.{withJob, freshRun, releaseOf}
-use Rattle.run.specs.Tick.{settle, choose, lastOf, advance, tickTaken, tickOf}
-use Rattle.run.specs.Events.{eventOf, after}
+use Rattle.queues.specs.Queues.{lastOf}
+use Rattle.run.specs.Tick.{settle, choose, advance, tickTaken, tickOf}
+use Rattle.events.proofs.Boxes.{after-keeps as after-keeps-in}
+use Rattle.run.specs.Events.{eventOf, theBox, after}
 use Rattle.run.proofs.Taken.{ReleaseTaken, releaseTaken, tickedTaken, release-ind, tick-ind}
 use Rattle.run.proofs.Shape.{Shaped, RunShaped, event-run-shaped, settle-counts, fresh-run-shaped}
-use Rattle.run.proofs.Tick.{used-settled, elapsed-settled, used-after, elapsed-after, charged-able, able-room, charged-is}
-use Rattle.run.proofs.Tick.{ran-front, ran-is, one-same, one-eq}
+use Rattle.run.proofs.Tick.{used-settled, elapsed-settled, used-after, elapsed-after, charged-able, able-room}
+use Rattle.run.proofs.Tick.{ran-front}
 use Rattle.run.proofs.Sound.{ServerSound, TaskSound, LastSound, CountsSound, StateSound, sound-table, sound-state}
-use Rattle.run.proofs.Sound.{sound-build}
-use Rattle.run.proofs.Steps.{set-at, set-past, one-here, one-past, same-or-not, sum-one, settled-row, settled-low}
+use Rattle.run.proofs.Sound.{sound-build, task-queue}
+use Rattle.run.proofs.Steps.{settled-row, settled-low}
 use Rattle.run.proofs.Steps.{waiting-settled, runs-after}
 
 -- a capacity is at most the largest
@@ -97,13 +103,7 @@ fresh-sound t rules =
 -- A release: one job more of task k, and of no other task.
 pub waiting-released : (s : State) (k j : ℕ) → k < length (s .waiting) →
     waitingAt (withJob s k) j ≡ waitingAt s j + one k j
-waiting-released s k j l = go (same-or-not k j)
-  where
-    go : (k ≡ j) ⊎ (k ≡ j → ⊥) → waitingAt (withJob s k) j ≡ waitingAt s j + one k j
-    go (inl e) =
-        let q : waitingAt s k ≡ waitingAt s j = ap (waitingAt s) e in
-        omega (arith, set-at (s .waiting) k (waitingAt s k + 1) j l e, one-here k j e)
-    go (inr n) = omega (arith, set-past (s .waiting) k (waitingAt s k + 1) j n, one-past k j n)
+waiting-released s k j l = joined-waiting (queuesOf s) k j l
 
 pub waiting-taken : (r : Run) (k j : ℕ) → RunShaped r → ReleaseTaken r k →
     waitingAt (releaseTaken r k .run .state) j ≡ waitingAt (r .state) j + one k j
@@ -115,8 +115,11 @@ waiting-taken r k j h y =
 module _ (t : Table) (s : State) (k : ℕ) (rules : TableRules t) (h : Shaped s) (f : StateSound t s)
     (below : k < t .ntasks) (room : waitingAt s k < 16)
     (level : not (isD2 (s .mode) && isLow (taskAt t k .level)) ≡ true) (count : s .accepted < 4000000000) where
+  long : k < length (s .waiting)
+  long = omega (arith, h .waiting, rules .tasks-high)
+
   job-waiting : (j : ℕ) → waitingAt (withJob s k) j ≡ waitingAt s j + one k j
-  job-waiting j = waiting-released s k j (omega (arith, h .waiting, rules .tasks-high))
+  job-waiting j = waiting-released s k j long
 
   -- where a job is released, the level forbids none
   job-low : (j : ℕ) → j < t .ntasks → isD2 (s .mode) ≡ true → isLow (taskAt t j .level) ≡ true →
@@ -130,33 +133,12 @@ module _ (t : Table) (s : State) (k : ℕ) (rules : TableRules t) (h : Shaped s)
       go (inl q) = absurd (never (isD2 (s .mode)) (isLow (taskAt t k .level)) level d (rw q e))
       go (inr n) = omega (arith, job-waiting j, one-past k j n, f .tasks j l .low d e)
 
-  job-queue : (j : ℕ) → j < t .ntasks → waitingAt (withJob s k) j ≤ 16
-  job-queue j l = go (same-or-not k j)
-    where
-      go : (k ≡ j) ⊎ (k ≡ j → ⊥) → waitingAt (withJob s k) j ≤ 16
-      go (inl q) =
-          let w : waitingAt s k ≡ waitingAt s j = ap (waitingAt s) q in
-          omega (arith, job-waiting j, one-here k j q)
-      go (inr n) = omega (arith, job-waiting j, one-past k j n, f .tasks j l .queue)
-
-  job-front : (j : ℕ) → j < t .ntasks → (waitingAt s j ≤ 0) ⊎ (0 < waitingAt s j) →
-      (runsAt s j < limitAt t (s .mode) j) ⊎ ((isLast (s .last) j ≡ true) × (runsAt s j ≡ limitAt t (s .mode) j))
-  job-front j l (inl z) = inl (omega (arith, f .tasks j l .none (omega arith), rules .task j l .limit-low (s .mode)))
-  job-front j l (inr w) = f .tasks j l .front w
-
   job-task : (j : ℕ) → j < t .ntasks → TaskSound t (withJob s k) j
   job-task j l =
-      record {
-        queue = job-queue j l;
-        none = λ z. f .tasks j l .none (omega (arith, job-waiting j));
-        front = λ w. job-front j l (le-or-lt (waitingAt s j) 0);
-        low = job-low j l;
-      }
-
-  job-last : (l : Last) → LastSound t s l → LastSound t (withJob s k) l
-  job-last NoJob q = tt
-  job-last (Job j) q =
-      record { below = q .below; waits = omega (arith, job-waiting j, q .waits); ran = q .ran; tick = q .tick }
+      let q =
+      joined-queue (queuesOf s) k j (limitAt t (s .mode) j) (runsAt s j) (isLast (s .last) j) long room
+      (rules .task j l .limit-low (s .mode)) (task-queue t s j (f .tasks j l)) in
+      record { queue = q .queue; none = q .none; front = q .front; low = job-low j l }
 
   pub release-sound : StateSound t (withJob s k)
   release-sound =
@@ -169,20 +151,8 @@ module _ (t : Table) (s : State) (k : ℕ) (rules : TableRules t) (h : Shaped s)
               room = f .servers i l .room;
             };
         tasks = job-task;
-        last = job-last (s .last) (f .last);
-        counts =
-            record {
-              ticks = f .counts .ticks;
-              accepted = omega arith;
-              waiting =
-                  omega (
-                    arith,
-                    sum-cong (waitingAt (withJob s k)) (λ j. waitingAt s j + one k j) (t .ntasks) (λ j l. job-waiting j),
-                    sum-add (waitingAt s) (one k) (t .ntasks),
-                    sum-one k (t .ntasks) below,
-                    f .counts .waiting,
-                  );
-            };
+        last = joined-last (t .ntasks) (queuesOf s) k (s .ticks .0) long (s .last) (f .last);
+        counts = joined-counts (t .ntasks) (queuesOf s) k (s .ticks .0) (s .accepted) long below count (f .counts);
       }
 
 -- A tick: the servers by T1 and T2, the tasks by what steps 1 to 3 leave and by whose job runs.
@@ -218,60 +188,20 @@ module _ (t : Table) (s : State) (mark : Bool) (rules : TableRules t) (h : Shape
             ];
       }
 
-  -- a job that runs waits, and is the last-run one
+  -- a job that runs waits
   ran-waits : (k : ℕ) → ran (choose t (settle t s mark .state)) k ≡ 1 → 0 < waitingAt (settle t s mark .state) k
   ran-waits k r =
       let z = settle t s mark .state in
       ltb-true 0 (waitingAt z k) (ran-front t z k r .1 .waits)
 
-  ran-last : (turn : Turn) (k : ℕ) → ran turn k ≡ 1 → isLast (lastOf turn) k ≡ true
-  ran-last (Ran i j) k r = eq-eqb j k (one-eq j k r)
-  ran-last (Empty i) k r = absurd (omega arith)
-  ran-last Idle k r = absurd (omega arith)
-
-  tick-front : (k : ℕ) → k < t .ntasks → 0 < waitingAt (settle t s mark .state) k →
-      (runsAt (tickTaken t s mark .state) k < limitAt t (settle t s mark .state .mode) k) ⊎
-      ((isLast (lastOf (choose t (settle t s mark .state))) k ≡ true) ×
-      (runsAt (tickTaken t s mark .state) k ≡ limitAt t (settle t s mark .state .mode) k))
-  tick-front k l w = go (ran-is turn k) (le-or-lt (limitAt t (z .mode) k) (runsAt (tickTaken t s mark .state) k))
-    where
-      z : State
-      z = settle t s mark .state
-
-      turn : Turn
-      turn = choose t z
-
-      go : (ran turn k ≡ 0) ⊎ (ran turn k ≡ 1) →
-          (limitAt t (z .mode) k ≤ runsAt (tickTaken t s mark .state) k) ⊎
-          (runsAt (tickTaken t s mark .state) k < limitAt t (z .mode) k) →
-          (runsAt (tickTaken t s mark .state) k < limitAt t (z .mode) k) ⊎
-          ((isLast (lastOf turn) k ≡ true) × (runsAt (tickTaken t s mark .state) k ≡ limitAt t (z .mode) k))
-      go r (inr b) = inl b
-      go (inl r) (inl a) =
-          absurd (omega (arith, r, runs-after t s mark (rules .tasks-high) h k l, settled-row t s mark rules h f k l .front w))
-      go (inr r) (inl a) =
-          inr (
-            ran-last turn k r,
-            omega (arith, r, runs-after t s mark (rules .tasks-high) h k l, settled-row t s mark rules h f k l .front w),
-          )
-
-  tick-none : (k : ℕ) → k < t .ntasks → waitingAt (settle t s mark .state) k ≡ 0 →
-      runsAt (tickTaken t s mark .state) k ≡ 0
-  tick-none k l w =
-      elim (ran-is (choose t (settle t s mark .state)) k) [
-        | inl r ↦ omega (arith, runs-after t s mark (rules .tasks-high) h k l, settled-row t s mark rules h f k l .none w)
-        | inr r ↦ absurd (omega (arith, ran-waits k r))
-      ]
-
   tick-task : (k : ℕ) → k < t .ntasks → TaskSound t (tickTaken t s mark .state) k
   unfolding tickTaken advance
   tick-task k l =
-      record {
-        queue = settled-row t s mark rules h f k l .queue;
-        none = tick-none k l;
-        front = tick-front k l;
-        low = settled-low t s mark rules h f k l;
-      }
+      let z = settle t s mark .state in
+      let q =
+      ran-queue (choose t z) k (limitAt t (z .mode) k) (waitingAt z k) (runsAt z k) (runsAt (tickTaken t s mark .state) k)
+      (settled-row t s mark rules h f k l) (ran-waits k) (runs-after t s mark (rules .tasks-high) h k l) in
+      record { queue = q .queue; none = q .none; front = q .front; low = settled-low t s mark rules h f k l }
 
   tick-last : (turn : Turn) → choose t (settle t s mark .state) ≡ turn →
       LastSound t (tickTaken t s mark .state) (lastOf turn)
@@ -346,9 +276,14 @@ event-keeps r (Release k) h q = release-keeps r k h q
 event-keeps r (Tick mark) h q = tick-keeps r mark h q
 
 pub after-keeps : (r : Run) (es : List Event) → RunShaped r → sound r ≡ true → sound (after r es) ≡ true
-unfolding after
-after-keeps r [] h q = q
-after-keeps r (e ∷ es) h q = after-keeps (eventOf r e .run) es (event-run-shaped r e h) (event-keeps r e h q)
+after-keeps r es h q =
+    after-keeps-in theBox (λ (r : Run). RunShaped r × (sound r ≡ true))
+    (λ (r : Run) (e : Event) (p : RunShaped r × (sound r ≡ true)).
+    (event-run-shaped r e (p .0), event-keeps r e (p .0) (p .1)))
+    r
+    es
+    (h, q)
+    .1
 
 pub fresh-keeps : (t : Table) → Sized t → tableKeeps t ≡ true → sound (freshRun t) ≡ true
 fresh-keeps t z e = sound-build (freshRun t) e (fresh-sound t (table-rules t z e))

@@ -9,6 +9,5 @@ pub mod Kept
 pub mod Refused
 pub mod Count
 pub mod Slips
-pub mod Values
 pub mod Found
 pub mod ManyLines

@@ -13,87 +13,34 @@ use borrow.Author.Tests.{leb-true, leb-false, le-leb, lt-leb}
 use Rattle.laws.specs.Choice.{unless_say_else_}
 use Rattle.laws.proofs.Choice.{if-ind, and-left, and-right}
 use Rattle.table.specs.declared.Refusal.the-variants.{RoomShort, Unsound}
+use Rattle.events.specs.Boxes.{afterLinesIn}
 use Rattle.run.specs.declared.Run.{Run}
-use Rattle.run.specs.declared.Answer.{Answer}
-use Rattle.run.specs.declared.Answer.the-variants.{Released as AnswerReleased, Ticked as AnswerTicked}
-use Rattle.run.specs.declared.Answer.the-variants.{No as AnswerNo}
+use Rattle.events.specs.declared.Answer.{Answer}
+use Rattle.events.specs.declared.Answer.the-variants.{Released as AnswerReleased, Ticked as AnswerTicked}
+use Rattle.events.specs.declared.Answer.the-variants.{No as AnswerNo}
 use Rattle.run.specs.declared.Answered.{Answered}
-use Rattle.run.specs.declared.Event.{Event}
-use Rattle.run.specs.declared.Event.the-variants.{Release, Tick}
-use Rattle.run.specs.declared.EventLine.{EventLine}
-use Rattle.run.specs.declared.EventLine.the-variants.{Of, Another}
-use Rattle.run.specs.declared.Told.{Told}
-use Rattle.run.specs.declared.Told.the-variants.{No, Released, Ticked}
+use Rattle.events.specs.declared.Event.{Event}
+use Rattle.events.specs.declared.Event.the-variants.{Release, Tick}
+use Rattle.events.specs.declared.EventLine.{EventLine}
+use Rattle.events.specs.declared.EventLine.the-variants.{Of, Another}
+use Rattle.events.specs.declared.Told.{Told}
+use Rattle.events.specs.declared.Told.the-variants.{No, Released, Ticked}
 use Rattle.run.specs.Sound.{sound}
-use Rattle.run.specs.Events.{eventOf, after, answers}
+use Rattle.run.specs.Events.{eventOf, theBox}
 use Rattle.run.specs.Tick.{settle, tickOf}
 use Rattle.run.specs.Found.{TakenTick, tickTakenSo, takenBy, allFound, allTold}
-use Rattle.run.specs.Values.{toldOf, linesSaid, toldValues, toldAt}
+use Rattle.events.specs.Values.{toldOf, linesSaid, toldValues, toldAt}
 use Rattle.run.specs.Many.{ticksAt, ticksAmong, LentBoth, unfound, takenFinding, findOf}
-use Rattle.run.specs.Many.{toldTo, afterLine, toldToAll, afterLines, allValues, takingNumber, Lent, untaken, taken, manyOf}
-use Rattle.run.proofs.Values.{told-length, told-back, told-past}
+use Rattle.run.specs.Many.{toldTo, afterLine, toldToAll, afterLines, Lent, untaken, taken, manyOf}
+use Rattle.events.specs.Values.{allValues}
+use Rattle.events.specs.Answers.{takingNumber}
+use Rattle.events.proofs.Values.{values-length, values-at}
+use Rattle.events.proofs.Boxes.{told-all-length, lines-keep as lines-keep-in}
 use Rattle.run.proofs.Found.{all-found-length, all-told-length}
 use Rattle.run.proofs.Shape.{RunShaped, event-run-shaped}
 use Rattle.run.proofs.Kept.{event-keeps}
-use Rattle.run.proofs.Refused.{Given}
+use Rattle.events.proofs.Answers.{Given}
 use Rattle.run.proofs.Taken.{release-ind}
-
--- Some lines and then others; a line more.
-pub told-append : (r : Run) (ks ls : List EventLine) →
-    toldToAll r (ks ++ ls) ≡ toldToAll r ks ++ toldToAll (afterLines r ks) ls
-unfolding toldToAll afterLines
-told-append r [] ls = refl
-told-append r (k ∷ ks) ls = ap (λ (xs : List Told). toldTo r k ∷ xs) (told-append (afterLine r k) ks ls)
-
-pub after-append : (r : Run) (ks ls : List EventLine) → afterLines r (ks ++ ls) ≡ afterLines (afterLines r ks) ls
-unfolding afterLines
-after-append r [] ls = refl
-after-append r (k ∷ ks) ls = after-append (afterLine r k) ks ls
-
--- something is told to each line
-pub told-all-length : (r : Run) (ls : List EventLine) → length (toldToAll r ls) ≡ length ls
-unfolding toldToAll
-told-all-length r [] = refl
-told-all-length r (l ∷ ls) = ap suc (told-all-length (afterLine r l) ls)
-
--- All of it as numbers: nine for each line, and what is told to line i is told by the nine from 9i
--- on.
-pub values-length : (xs : List Told) → length (allValues xs) ≡ 9 * length xs
-unfolding allValues
-values-length [] = refl
-values-length (x ∷ xs) =
-    omega (arith, length-append (toldValues x) (allValues xs), told-length x, values-length xs)
-
-pub values-append : (xs ys : List Told) → allValues (xs ++ ys) ≡ allValues xs ++ allValues ys
-unfolding allValues
-values-append [] ys = refl
-values-append (x ∷ xs) ys =
-    ap (λ (zs : List ℕ). toldValues x ++ zs) (values-append xs ys)
-    ∙ sym (append-assoc (toldValues x) (allValues xs) (allValues ys))
-
-pub values-at : (xs : List Told) (ys : List ℕ) (i : ℕ) → i < length xs →
-    toldAt (allValues xs ++ ys) (9 * i) ≡ getD xs i (No 0)
-unfolding allValues
-values-at [] ys i h = absurd (omega arith)
-values-at (x ∷ xs) ys zero h =
-    ap (λ (l : List ℕ). toldAt l 0) (append-assoc (toldValues x) (allValues xs) ys) ∙ told-back x (allValues xs ++ ys)
-values-at (x ∷ xs) ys (suc i) h =
-    let e : 9 * suc i ≡ length (toldValues x) + 9 * i = omega (arith, told-length x) in
-    ap₂ (λ (l : List ℕ) (n : ℕ). toldAt l n) (append-assoc (toldValues x) (allValues xs) ys) e
-    ∙ told-past (toldValues x) (allValues xs ++ ys) (9 * i)
-    ∙ values-at xs ys i (omega arith)
-
--- Where all lines are events, each is told its answer.
-pub told-answers : (r : Run) (es : List Event) → toldToAll r (map Of es) ≡ map toldOf (answers r es)
-unfolding toldToAll answers
-told-answers r [] = refl
-told-answers r (e ∷ es) =
-    ap (λ (xs : List Told). toldOf (eventOf r e .answer) ∷ xs) (told-answers (eventOf r e .run) es)
-
-pub after-events : (r : Run) (es : List Event) → afterLines r (map Of es) ≡ after r es
-unfolding afterLines after
-after-events r [] = refl
-after-events r (e ∷ es) = after-events (eventOf r e .run) es
 
 -- A tick is told to a line exactly if one is taken there.
 abbrev pub TickTold : Told → List TakenTick → Type 0
@@ -113,19 +60,15 @@ tick-told r (Of (Tick mark)) = go (tickOf r mark .answer)
     go (AnswerNo why) = refl
 
 -- A run keeps its shape over lines, and stays sound.
-line-shaped : (r : Run) (l : EventLine) → RunShaped r → RunShaped (afterLine r l)
-line-shaped r (Of e) h = event-run-shaped r e h
-line-shaped r Another h = h
-
-line-keeps : (r : Run) (l : EventLine) → RunShaped r → sound r ≡ true → sound (afterLine r l) ≡ true
-line-keeps r (Of e) h q = event-keeps r e h q
-line-keeps r Another h q = q
-
 pub lines-keep : (r : Run) (ls : List EventLine) → RunShaped r → sound r ≡ true →
     RunShaped (afterLines r ls) × (sound (afterLines r ls) ≡ true)
-unfolding afterLines
-lines-keep r [] h q = (h, q)
-lines-keep r (l ∷ ls) h q = lines-keep (afterLine r l) ls (line-shaped r l h) (line-keeps r l h q)
+lines-keep r ls h q =
+    lines-keep-in theBox (λ (r : Run). RunShaped r × (sound r ≡ true))
+    (λ (r : Run) (e : Event) (p : RunShaped r × (sound r ≡ true)).
+    (event-run-shaped r e (p .0), event-keeps r e (p .0) (p .1)))
+    r
+    ls
+    (h, q)
 
 -- 13 and 12 of many lines, each exactly in its case and 13 first; else they are taken.
 door-ind : {A : Type 0} (P : A → Type 0) (r : Run) (enough : Bool) {x y z : A} → (sound r ≡ false → P x) →
@@ -190,7 +133,7 @@ module _ (r : Run) (values room : List ℕ) where
       let n = 9 * length lines in
       let told = toldToAll r lines in
       let v = allValues told in
-      let e : length v ≡ n = omega (arith, values-length told, told-all-length r lines) in
+      let e : length v ≡ n = omega (arith, values-length told, told-all-length theBox r lines) in
       many-cases (λ (l : Lent). drop n (l .room) ≡ drop n room) (λ p. refl) (λ p. refl)
       (λ p. rw (← e) (drop-append-seam v (drop (length v) room)))
 
@@ -199,7 +142,7 @@ module _ (r : Run) (values room : List ℕ) where
       toldAt (manyOf r values room .room) (9 * i) ≡ getD (toldToAll r lines) i (No 0)
   many-told i p l =
       ap (λ (x : Lent). toldAt (x .room) (9 * i)) (many-taken p)
-      ∙ values-at (toldToAll r lines) (drop (9 * length lines) room) i (omega (arith, told-all-length r lines))
+      ∙ values-at (toldToAll r lines) (drop (9 * length lines) room) i (omega (arith, told-all-length theBox r lines))
 
   pub many-keeps : RunShaped r → sound r ≡ true → sound (manyOf r values room .many .run) ≡ true
   many-keeps h e =

@@ -19,19 +19,24 @@ use Rattle.table.specs.declared.Refusal.{Refusal}
 use Rattle.table.specs.declared.Table.{Table}
 use Rattle.table.specs.Rows.{taskAt, isLow, isD2}
 use Rattle.table.specs.Rules.{tableKeeps}
-use Rattle.run.specs.declared.Last.{Last}
-use Rattle.run.specs.declared.Last.the-variants.{NoJob, Job}
+use Rattle.queues.specs.declared.Last.{Last}
+use Rattle.queues.specs.declared.Last.the-variants.{NoJob, Job}
+use Rattle.events.specs.Boxes.{afterIn}
 use Rattle.run.specs.declared.Run.{Run}
-use Rattle.run.specs.declared.Event.{Event}
-use Rattle.run.specs.declared.Event.the-variants.{Release, Tick}
-use Rattle.run.specs.declared.Answer.the-variants.{Released, Ticked, No}
+use Rattle.events.specs.declared.Event.{Event}
+use Rattle.events.specs.declared.Event.the-variants.{Release, Tick}
+use Rattle.events.specs.declared.Answer.the-variants.{Released, Ticked, No}
 use Rattle.run.specs.declared.Begun.{Begun}
 use Rattle.run.specs.declared.Answered.{Answered}
 use Rattle.run.specs.State.{waitingAt}
 use Rattle.run.specs.Sound.{sound}
-use Rattle.run.specs.Answers.{noOf, startingNumber}
+use Rattle.events.specs.Answers.{noOf}
+use Rattle.events.proofs.Answers.{holds-iff, Given}
+use Rattle.queues.proofs.Queues.{no-job}
+use Rattle.events.specs.Answers.{startingNumber}
 use Rattle.run.specs.Release.{freshRun, startOf, releaseOf}
-use Rattle.run.specs.Tick.{advance, tickTaken, ranJob, tickOf}
+use Rattle.queues.specs.Queues.{ranJob}
+use Rattle.run.specs.Tick.{advance, tickTaken, tickOf}
 use Rattle.run.specs.Events.{eventOf, after}
 use Rattle.run.proofs.Taken.{levelTaken, markTaken, release-cases, tick-cases, release-ind, tick-ind}
 use Rattle.run.proofs.Shape.{settle-counts}
@@ -46,12 +51,7 @@ refused-as-it-was r (Tick mark) why =
     tick-ind (λ (a : Answered). a .answer ≡ No why → a .run ≡ r) r mark (λ w e. refl)
     (λ y e. let z : _≡_ {A = ℕ} 0 1 = cc in absurd (omega arith))
 
--- A test that fails exactly where something is so holds exactly where it is not.
-holds-iff : (b : Bool) {P : Type 0} → (b ≡ false) ↔ P → (b ≡ true) ↔ (P → ⊥)
-holds-iff true f = (λ e p. clash true refl (f .1 p), λ n. refl)
-holds-iff false f = (λ e. absurd (clash false e refl), λ n. absurd (n (f .0 refl)))
-
--- 7's case and 9's: the tests say of mode and level, of mark and last-run job, what the page says
+-- 7's case: the test says of mode and level what the page says
 low-in-D2 : (m : Mode) (l : Level) → (not (isD2 m && isLow l) ≡ false) ↔ ((m ≡ D2) × (l ≡ LO))
 low-in-D2 m l = (to m l, λ p. rw (p .0, p .1))
   where
@@ -61,19 +61,6 @@ low-in-D2 m l = (to m l, λ p. rw (p .0, p .1))
     to D2 HI e = absurd (clash true refl e)
     to N l e = absurd (clash true refl e)
     to D1 l e = absurd (clash true refl e)
-
-no-job : (mark : Bool) (l : Last) → ((not mark || ranJob l) ≡ false) ↔ ((mark ≡ true) × (l ≡ NoJob))
-no-job mark l = (to mark l, λ p. rw (p .0, p .1))
-  where
-    to : (mark : Bool) (l : Last) → (not mark || ranJob l) ≡ false → (mark ≡ true) × (l ≡ NoJob)
-    to true NoJob e = (refl, refl)
-    to true (Job k) e = absurd (clash true refl e)
-    to false l e = absurd (clash true refl e)
-
--- Numbers, each with what is so where it is given; no other number is given.
-abbrev pub Given : List {1} (ℕ × Type 0) → ℕ → Type 0
-Given [] n = ⊥
-Given (c ∷ cs) n = elim (eqb (c .0) n) [ true ↦ c .1 | false ↦ Given cs n ]
 
 -- When a release is refused and why, each case in the page's order: what comes before it has held.
 module _ (r : Run) (k : ℕ) where
@@ -304,6 +291,6 @@ accepted-within r (Tick mark) h =
 
 pub counts-within : (r : Run) (es : List Event) → r .state .ticks .0 ≤ 4000000000 → r .state .accepted ≤ 4000000000 →
     (after r es .state .ticks .0 ≤ 4000000000) × (after r es .state .accepted ≤ 4000000000)
-unfolding after
+unfolding afterIn
 counts-within r [] h g = (h, g)
 counts-within r (e ∷ es) h g = counts-within (eventOf r e .run) es (ticks-within r e h) (accepted-within r e g)

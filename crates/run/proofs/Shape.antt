@@ -13,15 +13,16 @@ use Rattle.table.specs.declared.Mode.the-variants.{N}
 use Rattle.table.specs.declared.Table.{Table}
 use Rattle.table.specs.Rows.{taskAt}
 use Rattle.table.specs.Inner.{Sized}
-use Rattle.run.specs.declared.Last.{Last}
-use Rattle.run.specs.declared.Last.the-variants.{NoJob, Job}
+use Rattle.queues.specs.declared.Last.{Last}
+use Rattle.queues.specs.declared.Last.the-variants.{NoJob, Job}
 use Rattle.run.specs.declared.State.{State}
 use Rattle.run.specs.declared.Run.{Run}
-use Rattle.run.specs.declared.Turn.{Turn}
-use Rattle.run.specs.declared.Event.{Event}
-use Rattle.run.specs.declared.Event.the-variants.{Release, Tick}
+use Rattle.events.specs.declared.Turn.{Turn}
+use Rattle.events.specs.declared.Event.{Event}
+use Rattle.events.specs.declared.Event.the-variants.{Release, Tick}
 use Rattle.run.specs.declared.Answered.{Answered}
-use Rattle.run.specs.State.{waitingAt, runsAt, someWaits, fresh, withMode, withQueues}
+use Rattle.queues.specs.Queues.{Queues, frontGone}
+use Rattle.run.specs.State.{queuesOf, runsAt, someWaits, fresh, withMode, withQueues}
 use Rattle.run.specs.Release.{withJob, freshRun, releaseOf}
 use Rattle.run.specs.Tick.{Marked, judge, withoutFront, step1, step2, step3, step4, settle, choose, advance, tickTaken, tickOf}
 use Rattle.run.specs.Events.{eventOf}
@@ -45,9 +46,9 @@ pub record Alike (s z : State) : Type 0 where
   pub runs : length (z .runs) ≡ length (s .runs)
 
 -- another mode and other queues of the same length, and all else as it was
-queues-alike : (s : State) (m : Mode) (ws rs : List ℕ) → length ws ≡ length (s .waiting) →
-    length rs ≡ length (s .runs) → Alike s (withQueues (withMode s m) ws rs)
-queues-alike s m ws rs p q =
+queues-alike : (s : State) (m : Mode) (qs : Queues) → length (qs .waiting) ≡ length (s .waiting) →
+    length (qs .runs) ≡ length (s .runs) → Alike s (withQueues (withMode s m) qs)
+queues-alike s m qs p q =
     record {
       used = refl;
       elapsed = refl;
@@ -59,12 +60,11 @@ queues-alike s m ws rs p q =
     }
 
 pub mode-alike : (s : State) (m : Mode) → Alike s (withMode s m)
-mode-alike s m = queues-alike s m (s .waiting) (s .runs) refl refl
+mode-alike s m = queues-alike s m (queuesOf s) refl refl
 
 front-alike : (s : State) (m : Mode) (k : ℕ) → Alike s (withoutFront (withMode s m) k)
 front-alike s m k =
-    queues-alike s m (set (s .waiting) k (waitingAt s k - 1)) (set (s .runs) k 0) (length-set (s .waiting) k _)
-    (length-set (s .runs) k _)
+    queues-alike s m (frontGone (queuesOf s) k) (length-set (s .waiting) k _) (length-set (s .runs) k _)
 
 pub alike-then : {s y z : State} → Alike s y → Alike y z → Alike s z
 alike-then a b =
@@ -98,8 +98,7 @@ step1-alike t s false (Job k) =
 pub step2-alike : (t : Table) (before : Mode) (s : State) → Alike s (step2 t before s)
 unfolding step2
 step2-alike t before s =
-    queues-alike s (s .mode) (step2 t before s .waiting) (step2 t before s .runs) (length-anew _ _ (s .waiting))
-    (length-anew _ _ (s .runs))
+    queues-alike s (s .mode) (queuesOf (step2 t before s)) (length-anew _ _ (s .waiting)) (length-anew _ _ (s .runs))
 
 pub step3-alike : (t : Table) (s : State) → Alike s (step3 t s)
 unfolding step3

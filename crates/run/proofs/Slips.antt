@@ -20,19 +20,19 @@ use Rattle.table.specs.Rows.{taskAt, periodAt, limitAt, inMode, isLow}
 use Rattle.table.specs.Inner.{Sized}
 use Rattle.table.specs.Rules.{tableKeeps}
 use Rattle.table.proofs.Rules.{TableRules}
-use Rattle.run.specs.declared.Last.{Last}
-use Rattle.run.specs.declared.Last.the-variants.{NoJob, Job}
-use Rattle.run.specs.declared.Left.{Left}
-use Rattle.run.specs.declared.Left.the-variants.{Nobody, Done, Cut}
+use Rattle.queues.specs.declared.Last.{Last}
+use Rattle.queues.specs.declared.Last.the-variants.{NoJob, Job}
+use Rattle.events.specs.declared.Left.{Left}
+use Rattle.events.specs.declared.Left.the-variants.{Nobody, Done, Cut}
 use Rattle.run.specs.declared.State.{State}
 use Rattle.run.specs.declared.Run.{Run}
-use Rattle.run.specs.declared.Event.{Event}
-use Rattle.run.specs.declared.Event.the-variants.{Release, Tick}
-use Rattle.run.specs.declared.Answer.the-variants.{Released}
+use Rattle.events.specs.declared.Event.{Event}
+use Rattle.events.specs.declared.Event.the-variants.{Release, Tick}
+use Rattle.events.specs.declared.Answer.the-variants.{Released}
 use Rattle.run.specs.declared.Answered.{Answered}
 use Rattle.run.specs.State.{usedAt, elapsedAt, waitingAt, runsAt, taskWaits, someWaits, withMode}
 use Rattle.run.specs.Sound.{sound}
-use Rattle.run.specs.Answers.{noOf, finishedBy, cutBy}
+use Rattle.events.specs.Answers.{noOf, finishedBy, cutBy}
 use Rattle.run.specs.Release.{freshRun, releaseOf}
 use Rattle.run.specs.declared.Judged.{Judged}
 use Rattle.run.specs.Tick.{raises, judge, withoutFront, Marked, judged, step1, drops, discards, step2, step3}
@@ -41,8 +41,10 @@ use Rattle.run.specs.Events.{eventOf, after}
 use Rattle.run.proofs.Judge.{below-limit, raises-mode, is-cut}
 use Rattle.run.proofs.Taken.{release-ind}
 use Rattle.run.proofs.Shape.{Shaped, RunShaped, alike-shaped, mode-alike, step1-alike, event-run-shaped}
-use Rattle.run.proofs.Tick.{used-settled, one-same, one-eq}
-use Rattle.run.proofs.Steps.{set-at, step2-mode, step2-runs, step2-counted, step3-runs}
+use Rattle.run.proofs.Tick.{used-settled}
+use Rattle.events.proofs.Answers.{one-same, one-eq}
+use Rattle.queues.proofs.Queues.{set-at}
+use Rattle.run.proofs.Steps.{step2-mode, step2-runs, step2-counted, step3-runs}
 use Rattle.run.proofs.Kept.{waiting-taken, reached-sound}
 use Rattle.run.proofs.Count.{discards-low}
 use Rattle.run.proofs.Refused.{release-13, tick-13}

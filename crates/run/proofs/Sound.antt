@@ -17,12 +17,15 @@ use Rattle.laws.proofs.Rows.{all-at, all-build}
 use Rattle.table.specs.declared.Table.{Table}
 use Rattle.table.specs.Rows.{serverAt, taskAt, periodAt, limitAt, isLow, largest, isD2}
 use Rattle.table.specs.Rules.{tableKeeps}
-use Rattle.run.specs.declared.Last.{Last}
-use Rattle.run.specs.declared.Last.the-variants.{NoJob, Job}
+use Rattle.queues.specs.declared.Last.{Last}
+use Rattle.queues.specs.declared.Last.the-variants.{NoJob, Job}
 use Rattle.run.specs.declared.State.{State}
 use Rattle.run.specs.declared.Run.{Run}
-use Rattle.run.specs.State.{usedAt, elapsedAt, waitingAt, runsAt, taskWaits}
-use Rattle.run.specs.Sound.{soundServer, isLast, soundFront, soundTask, soundLast, soundCounts, soundState, sound}
+use Rattle.queues.proofs.Sound.{QueueSound, LastSound as LastSoundIn, JobSound as JobSoundIn, CountsSound as CountsSoundIn}
+use Rattle.queues.proofs.Sound.{queue-facts, queue-tests, last-facts, last-tests, counts-facts, counts-tests}
+use Rattle.run.specs.State.{queuesOf, usedAt, elapsedAt, waitingAt, runsAt, taskWaits}
+use Rattle.queues.specs.Queues.{isLast}
+use Rattle.run.specs.Sound.{soundServer, soundTask, soundLast, soundCounts, soundState, sound}
 
 -- a server's row
 pub record ServerSound (t : Table) (s : State) (i : ℕ) : Type 0 where
@@ -30,7 +33,7 @@ pub record ServerSound (t : Table) (s : State) (i : ℕ) : Type 0 where
   pub used : usedAt s i ≤ elapsedAt s i
   pub room : usedAt s i ≤ largest (serverAt t i .capacity) .0
 
--- a task's row: its front job, if there is one, has not reached its limit, but for the last-run job
+-- a task's row: its queue, and that no LO job waits in D2
 pub record TaskSound (t : Table) (s : State) (k : ℕ) : Type 0 where
   pub queue : waitingAt s k ≤ 16
   pub none : waitingAt s k ≡ 0 → runsAt s k ≡ 0
@@ -38,21 +41,15 @@ pub record TaskSound (t : Table) (s : State) (k : ℕ) : Type 0 where
       (runsAt s k < limitAt t (s .mode) k) ⊎ ((isLast (s .last) k ≡ true) × (runsAt s k ≡ limitAt t (s .mode) k))
   pub low : isD2 (s .mode) ≡ true → isLow (taskAt t k .level) ≡ true → waitingAt s k ≡ 0
 
--- the last-run task
-pub record JobSound (t : Table) (s : State) (k : ℕ) : Type 0 where
-  pub below : k < t .ntasks
-  pub waits : 0 < waitingAt s k
-  pub ran : 1 ≤ runsAt s k
-  pub tick : 1 ≤ s .ticks .0
-
+-- the last-run task, and the counts: as in every box
 abbrev pub LastSound : Table → State → Last → Type 0
-LastSound t s NoJob = Unit {0}
-LastSound t s (Job k) = JobSound t s k
+LastSound t s l = LastSoundIn (t .ntasks) (queuesOf s) (s .ticks .0) l
 
-pub record CountsSound (t : Table) (s : State) : Type 0 where
-  pub ticks : s .ticks .0 ≤ 4000000000
-  pub accepted : s .accepted ≤ 4000000000
-  pub waiting : sumBelow (t .ntasks) (waitingAt s) ≤ s .accepted
+abbrev pub JobSound : Table → State → ℕ → Type 0
+JobSound t s k = JobSoundIn (t .ntasks) (queuesOf s) (s .ticks .0) k
+
+abbrev pub CountsSound : Table → State → Type 0
+CountsSound t s = CountsSoundIn (t .ntasks) (queuesOf s) (s .ticks .0) (s .accepted)
 
 pub record StateSound (t : Table) (s : State) : Type 0 where
   pub servers : (i : ℕ) → i < t .nservers → ServerSound t s i
@@ -71,30 +68,6 @@ server-facts t s i e =
       room = leb-true (usedAt s i) (largest (serverAt t i .capacity) .0) (at 2);
     }
 
-front-none : (t : Table) (s : State) (k : ℕ) → soundFront t s k ≡ true → waitingAt s k ≡ 0 → runsAt s k ≡ 0
-unfolding soundFront
-front-none t s k e z = eqb-true (runsAt s k) 0 (rw (le-ltb 0 (waitingAt s k) (omega arith)) at e)
-
-front-some : (t : Table) (s : State) (k : ℕ) → soundFront t s k ≡ true → 0 < waitingAt s k →
-    (runsAt s k < limitAt t (s .mode) k) ⊎ ((isLast (s .last) k ≡ true) × (runsAt s k ≡ limitAt t (s .mode) k))
-unfolding soundFront
-front-some t s k e w =
-    go (or-cases below (last && at) (rw (lt-ltb 0 (waitingAt s k) w) at e))
-  where
-    below : Bool
-    below = ltb (runsAt s k) (limitAt t (s .mode) k)
-
-    last : Bool
-    last = isLast (s .last) k
-
-    at : Bool
-    at = eqb (runsAt s k) (limitAt t (s .mode) k)
-
-    go : (below ≡ true) ⊎ ((last && at) ≡ true) →
-        (runsAt s k < limitAt t (s .mode) k) ⊎ ((isLast (s .last) k ≡ true) × (runsAt s k ≡ limitAt t (s .mode) k))
-    go (inl p) = inl (ltb-true (runsAt s k) (limitAt t (s .mode) k) p)
-    go (inr q) = inr (and-left last at q, eqb-true (runsAt s k) (limitAt t (s .mode) k) (and-right last at q))
-
 low-none : (d l w : Bool) → not (d && (l && w)) ≡ true → d ≡ true → l ≡ true → w ≡ false
 low-none d l w e p q = not-true w (rw (p, q) at e)
 
@@ -102,36 +75,15 @@ task-facts : (t : Table) (s : State) (k : ℕ) → every (soundTask t s k) ≡ t
 unfolding soundTask
 task-facts t s k e =
     let at = every-at (soundTask t s k) e in
+    let q = queue-facts (limitAt t (s .mode) k) (waitingAt s k) (runsAt s k) (isLast (s .last) k) (at 0) in
     record {
-      queue = leb-true (waitingAt s k) 16 (at 0);
-      none = front-none t s k (at 1);
-      front = front-some t s k (at 1);
+      queue = q .queue;
+      none = q .none;
+      front = q .front;
       low =
           λ d l.
-          let z = low-none (isD2 (s .mode)) (isLow (taskAt t k .level)) (taskWaits s k) (at 2) d l in
+          let z = low-none (isD2 (s .mode)) (isLow (taskAt t k .level)) (taskWaits s k) (at 1) d l in
           omega (arith, ltb-false 0 (waitingAt s k) z);
-    }
-
-last-facts : (t : Table) (s : State) (l : Last) → soundLast t s l ≡ true → LastSound t s l
-unfolding soundLast
-last-facts t s NoJob e = tt
-last-facts t s (Job k) e =
-    let at = every-at (ltb k (t .ntasks) ∷ taskWaits s k ∷ leb 1 (runsAt s k) ∷ leb 1 (s .ticks .0) ∷ []) e in
-    record {
-      below = ltb-true k (t .ntasks) (at 0);
-      waits = ltb-true 0 (waitingAt s k) (at 1);
-      ran = leb-true 1 (runsAt s k) (at 2);
-      tick = leb-true 1 (s .ticks .0) (at 3);
-    }
-
-counts-facts : (t : Table) (s : State) → every (soundCounts t s) ≡ true → CountsSound t s
-unfolding soundCounts
-counts-facts t s e =
-    let at = every-at (soundCounts t s) e in
-    record {
-      ticks = leb-true (s .ticks .0) 4000000000 (at 0);
-      accepted = leb-true (s .accepted) 4000000000 (at 1);
-      waiting = leb-true (sumBelow (t .ntasks) (waitingAt s)) (s .accepted) (at 2);
     }
 
 -- the state's tests, row by row and in all
@@ -142,14 +94,14 @@ abbrev tasks : Table → State → Bool
 tasks t s = allBelow (t .ntasks) (λ k. every (soundTask t s k))
 
 pub state-facts : (t : Table) (s : State) → soundState t s ≡ true → StateSound t s
-unfolding soundState
+unfolding soundState soundLast soundCounts
 state-facts t s e =
     let at = every-at (servers t s ∷ tasks t s ∷ soundLast t s (s .last) ∷ every (soundCounts t s) ∷ []) e in
     record {
       servers = λ i h. server-facts t s i (all-at (λ i. every (soundServer t s i)) (t .nservers) i (at 0) h);
       tasks = λ k h. task-facts t s k (all-at (λ k. every (soundTask t s k)) (t .ntasks) k (at 1) h);
-      last = last-facts t s (s .last) (at 2);
-      counts = counts-facts t s (at 3);
+      last = last-facts (t .ntasks) (queuesOf s) (s .ticks .0) (s .last) (at 2);
+      counts = counts-facts (t .ntasks) (queuesOf s) (s .ticks .0) (s .accepted) (at 3);
     }
 
 -- From the facts to the tests.
@@ -162,76 +114,32 @@ server-tests t s i f =
       le-leb (usedAt s i) (largest (serverAt t i .capacity) .0) (f .room),
     )
 
-front-test : (t : Table) (s : State) (k : ℕ) → TaskSound t s k → soundFront t s k ≡ true
-unfolding soundFront
-front-test t s k f = go (taskWaits s k) refl
-  where
-    below : Bool
-    below = ltb (runsAt s k) (limitAt t (s .mode) k)
-
-    last : Bool
-    last = isLast (s .last) k
-
-    at : Bool
-    at = eqb (runsAt s k) (limitAt t (s .mode) k)
-
-    some : (runsAt s k < limitAt t (s .mode) k) ⊎ ((last ≡ true) × (runsAt s k ≡ limitAt t (s .mode) k)) →
-        (below || (last && at)) ≡ true
-    some (inl p) = or-true-left below (last && at) (lt-ltb (runsAt s k) (limitAt t (s .mode) k) p)
-    some (inr q) =
-        or-true-right below (last && at)
-        (and-true last at (q .0) (eq-eqb (runsAt s k) (limitAt t (s .mode) k) (q .1)))
-
-    go : (w : Bool) → taskWaits s k ≡ w → soundFront t s k ≡ true
-    go true e = rw (e, soundFront) (some (f .front (ltb-true 0 (waitingAt s k) e)))
-    go false e =
-        rw
-        (e, soundFront)
-        (eq-eqb (runsAt s k) 0 (f .none (omega (arith, ltb-false 0 (waitingAt s k) e))))
-
 low-test : (d l w : Bool) → (d ≡ true → l ≡ true → w ≡ false) → not (d && (l && w)) ≡ true
 low-test true true w f = rw (f refl refl)
 low-test true false w f = refl
 low-test false l w f = refl
 
+pub task-queue : (t : Table) (s : State) (k : ℕ) → TaskSound t s k →
+    QueueSound (limitAt t (s .mode) k) (waitingAt s k) (runsAt s k) (isLast (s .last) k)
+task-queue t s k f = record { queue = f .queue; none = f .none; front = f .front }
+
 task-tests : (t : Table) (s : State) (k : ℕ) → TaskSound t s k → every (soundTask t s k) ≡ true
 unfolding soundTask every
 task-tests t s k f =
     rw (
-      le-leb (waitingAt s k) 16 (f .queue),
-      front-test t s k f,
+      queue-tests (limitAt t (s .mode) k) (waitingAt s k) (runsAt s k) (isLast (s .last) k) (task-queue t s k f),
       low-test (isD2 (s .mode)) (isLow (taskAt t k .level)) (taskWaits s k)
           (λ d l. le-ltb 0 (waitingAt s k) (omega (arith, f .low d l))),
     )
 
-last-test : (t : Table) (s : State) (l : Last) → LastSound t s l → soundLast t s l ≡ true
-unfolding soundLast every
-last-test t s NoJob f = refl
-last-test t s (Job k) f =
-    rw (
-      lt-ltb k (t .ntasks) (f .below),
-      lt-ltb 0 (waitingAt s k) (f .waits),
-      le-leb 1 (runsAt s k) (f .ran),
-      le-leb 1 (s .ticks .0) (f .tick),
-    )
-
-counts-tests : (t : Table) (s : State) → CountsSound t s → every (soundCounts t s) ≡ true
-unfolding soundCounts every
-counts-tests t s f =
-    rw (
-      le-leb (s .ticks .0) 4000000000 (f .ticks),
-      le-leb (s .accepted) 4000000000 (f .accepted),
-      le-leb (sumBelow (t .ntasks) (waitingAt s)) (s .accepted) (f .waiting),
-    )
-
 pub state-tests : (t : Table) (s : State) → StateSound t s → soundState t s ≡ true
-unfolding soundState every
+unfolding soundState soundLast soundCounts every
 state-tests t s f =
     rw (
       all-build (λ i. every (soundServer t s i)) (t .nservers) (λ i h. server-tests t s i (f .servers i h)),
       all-build (λ k. every (soundTask t s k)) (t .ntasks) (λ k h. task-tests t s k (f .tasks k h)),
-      last-test t s (s .last) (f .last),
-      counts-tests t s (f .counts),
+      last-tests (t .ntasks) (queuesOf s) (s .ticks .0) (s .last) (f .last),
+      counts-tests (t .ntasks) (queuesOf s) (s .ticks .0) (s .accepted) (f .counts),
     )
 
 -- A run is sound exactly if its table keeps the rules and its state the clauses.

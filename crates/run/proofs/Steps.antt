@@ -23,59 +23,25 @@ use Rattle.table.specs.declared.Table.{Table}
 use Rattle.table.specs.Rows.{taskAt, limitAt, isLow, isD2}
 use Rattle.table.proofs.Rows.{d2-exactly, low-exactly}
 use Rattle.table.proofs.Rules.{TableRules}
-use Rattle.run.specs.declared.Last.{Last}
-use Rattle.run.specs.declared.Last.the-variants.{NoJob, Job}
+use Rattle.queues.specs.declared.Last.{Last}
+use Rattle.queues.specs.declared.Last.the-variants.{NoJob, Job}
 use Rattle.run.specs.declared.State.{State}
-use Rattle.run.specs.State.{waitingAt, runsAt, taskWaits, someWaits, withMode}
-use Rattle.run.specs.Sound.{isLast}
-use Rattle.run.specs.Answers.{one, ran, finishedBy, cutBy}
+use Rattle.run.specs.State.{queuesOf, waitingAt, runsAt, taskWaits, someWaits, withMode}
+use Rattle.queues.specs.Queues.{isLast}
+use Rattle.events.specs.Answers.{ran, finishedBy, cutBy}
+use Rattle.events.proofs.Answers.{one-here, same-or-not}
+use Rattle.queues.proofs.Queues.{set-past, front-gone, front-ran}
+use Rattle.queues.proofs.Sound.{JudgedQueue, stays-judged, other-below, within-limit, gone-judged, other-judged}
 use Rattle.run.specs.declared.Judged.{Judged}
 use Rattle.run.specs.Tick.{Marked, judge, withoutFront, judged, step1, drops, discards, step2, step3, step4, settle, choose}
 use Rattle.run.specs.Tick.{advance, tickTaken}
 use Rattle.run.proofs.Shape.{Shaped, alike-shaped, mode-alike, step1-alike, settle-shaped}
-use Rattle.run.proofs.Sound.{TaskSound, JobSound, LastSound, StateSound}
+use Rattle.run.proofs.Sound.{TaskSound, JobSound, LastSound, StateSound, task-queue}
 use Rattle.run.proofs.Judge.{Rises, JudgedRight, judged-right}
 
 -- limits do not fall
 pub limits-rise : (t : Table) → TableRules t → (k : ℕ) → k < t .ntasks → Rises (taskAt t k .limit)
 limits-rise t rules k l = record { first = rules .task k l .rises; next = rules .task k l .rises-on }
-
--- a row of a list in which row i was set
-pub set-at : (xs : List ℕ) (i v k : ℕ) → i < length xs → i ≡ k → getD (set xs i v) k 0 ≡ v
-set-at xs i v k l e = rw (← e) (getD-set-same xs i v 0 l)
-
-pub set-past : (xs : List ℕ) (i v k : ℕ) → (i ≡ k → ⊥) → getD (set xs i v) k 0 ≡ getD xs k 0
-set-past xs i v k n = getD-set-other xs i k v 0 (λ e. n (sym e))
-
-pub one-here : (j k : ℕ) → j ≡ k → one j k ≡ 1
-one-here j k e = if-ind (λ (n : ℕ). n ≡ 1) (eqb j k) (λ q. refl) (λ q. absurd (eqb-false j k q e))
-
-pub one-past : (j k : ℕ) → (j ≡ k → ⊥) → one j k ≡ 0
-one-past j k n = if-ind (λ (n : ℕ). n ≡ 0) (eqb j k) (λ q. absurd (n (eqb-true j k q))) (λ q. refl)
-
-pub same-or-not : (j k : ℕ) → (j ≡ k) ⊎ (j ≡ k → ⊥)
-same-or-not j k = elim (true-or-false (eqb j k)) [ inl e ↦ inl (eqb-true j k e) | inr e ↦ inr (eqb-false j k e) ]
-
--- row k alone counts 1
-pub sum-one : (k n : ℕ) → k < n → sumBelow n (one k) ≡ 1
-unfolding sumBelow
-sum-one k zero l = absurd (omega arith)
-sum-one k (suc n) l = go (same-or-not k n) (sum-one k n)
-  where
-    go : (k ≡ n) ⊎ (k ≡ n → ⊥) → (k < n → sumBelow n (one k) ≡ 1) → sumBelow n (one k) + one k n ≡ 1
-    go (inl e) ih = omega (arith, sum-zero (one k) n (λ j m. one-past k j (λ q. omega arith)), one-here k n e)
-    go (inr d) ih = omega (arith, ih (omega arith), one-past k n d)
-
--- the front job of task j leaves: of task j one fewer waits, of any other task as many
-pub front-gone : (s : State) (j k : ℕ) → j < length (s .waiting) → 0 < waitingAt s j →
-    waitingAt (withoutFront s j) k + one j k ≡ waitingAt s k
-front-gone s j k l w = go (same-or-not j k)
-  where
-    go : (j ≡ k) ⊎ (j ≡ k → ⊥) → waitingAt (withoutFront s j) k + one j k ≡ waitingAt s k
-    go (inl e) =
-        let q : waitingAt s j ≡ waitingAt s k = ap (waitingAt s) e in
-        omega (arith, set-at (s .waiting) j (waitingAt s j - 1) k l e, one-here j k e)
-    go (inr n) = omega (arith, set-past (s .waiting) j (waitingAt s j - 1) k n, one-past j k n)
 
 -- "Mark 1: that job leaves, finished"; judged, it stays or is cut. Every other queue is as it was.
 judged-waiting : (s : State) (j : ℕ) (v : Judged) (k : ℕ) → j < length (s .waiting) → 0 < waitingAt s j →
@@ -85,7 +51,7 @@ judged-waiting s j v k l w =
     if-ind
     (λ (m : Marked). waitingAt (m .state) k + (finishedBy (m .left) k + cutBy (m .left) k) ≡ waitingAt s k)
     (v .cut)
-    (λ e. omega (arith, front-gone (withMode s (v .mode)) j k l w))
+    (λ e. omega (arith, front-gone (queuesOf s) j k l w))
     (λ e. omega arith)
 
 pub step1-waiting : (t : Table) (s : State) (mark : Bool) (l : Last) → t .ntasks ≤ 64 → Shaped s → LastSound t s l →
@@ -96,7 +62,7 @@ pub step1-waiting : (t : Table) (s : State) (mark : Bool) (l : Last) → t .ntas
 unfolding step1
 step1-waiting t s mark NoJob many h q k = omega arith
 step1-waiting t s true (Job j) many h q k =
-    omega (arith, front-gone s j k (omega (arith, h .waiting, q .below)) (q .waits))
+    omega (arith, front-gone (queuesOf s) j k (omega (arith, h .waiting, q .below)) (q .waits))
 step1-waiting t s false (Job j) many h q k =
     judged-waiting s j (judge 3 (taskAt t j) (runsAt s j) (s .mode)) k (omega (arith, h .waiting, q .below)) (q .waits)
 
@@ -172,50 +138,19 @@ unfolding step3
 step3-runs t s k = if-ind (λ (z : State). runsAt z k ≡ runsAt s k) (someWaits t s) (λ e. refl) (λ e. refl)
 
 -- A task's row as steps 1 to 3 leave it: no front job at its limit.
-pub record JudgedRow (t : Table) (s : State) (k : ℕ) : Type 0 where
-  pub queue : waitingAt s k ≤ 16
-  pub none : waitingAt s k ≡ 0 → runsAt s k ≡ 0
-  pub front : 0 < waitingAt s k → runsAt s k < limitAt t (s .mode) k
+abbrev pub JudgedRow : Table → State → ℕ → Type 0
+JudgedRow t s k = JudgedQueue (limitAt t (s .mode) k) (waitingAt s k) (runsAt s k)
 
--- In a sound state a task that is not the last-run one is below its limit, and the last-run one not
--- beyond it.
-other-below : (t : Table) (s : State) (k : ℕ) → TaskSound t s k → (isLast (s .last) k ≡ true → ⊥) → 0 < waitingAt s k →
-    runsAt s k < limitAt t (s .mode) k
-other-below t s k f n w = go (f .front w)
-  where
-    go : (runsAt s k < limitAt t (s .mode) k) ⊎ ((isLast (s .last) k ≡ true) × (runsAt s k ≡ limitAt t (s .mode) k)) →
-        runsAt s k < limitAt t (s .mode) k
-    go (inl p) = p
-    go (inr q) = absurd (n (q .0))
-
-within-limit : (t : Table) (s : State) (k : ℕ) → TaskSound t s k → 0 < waitingAt s k →
-    runsAt s k ≤ limitAt t (s .mode) k
-within-limit t s k f w = elim (f .front w) [ inl p ↦ omega arith | inr q ↦ omega (arith, q .1) ]
-
--- the row of the task whose front job left: "the front job's count starts at 0"
-gone-row : (t : Table) (s : State) (j k : ℕ) → Shaped s → j < 64 → j ≡ k → waitingAt s k ≤ 16 →
-    1 ≤ limitAt t (s .mode) k →
-    JudgedRow t (withoutFront s j) k
-gone-row t s j k h l e q m =
-    let w = set-at (s .waiting) j (waitingAt s j - 1) k (omega (arith, h .waiting)) e in
-    let c = set-at (s .runs) j 0 k (omega (arith, h .runs)) e in
-    let same : waitingAt s j ≡ waitingAt s k = ap (waitingAt s) e in
-    record { queue = omega arith; none = λ z. c; front = λ z. omega arith }
-
--- the row of another task, in a mode in which its limit is no smaller
-other-row : (t : Table) (s : State) (j k : ℕ) → (j ≡ k → ⊥) → JudgedRow t s k → JudgedRow t (withoutFront s j) k
-other-row t s j k n f =
-    let w = set-past (s .waiting) j (waitingAt s j - 1) k n in
-    let c = set-past (s .runs) j 0 k n in
-    record {
-      queue = omega (arith, f .queue);
-      none = λ z. c ∙ f .none (sym w ∙ z);
-      front = λ z. omega (arith, f .front (omega arith));
-    }
-
+-- in a mode in which its limit is no smaller
 risen-row : (t : Table) (s : State) (m : Mode) (k : ℕ) → TaskSound t s k →
     (0 < waitingAt s k → runsAt s k < limitAt t m k) → JudgedRow t (withMode s m) k
-risen-row t s m k f b = record { queue = f .queue; none = f .none; front = b }
+risen-row t s m k f b = stays-judged (limitAt t m k) (waitingAt s k) (runsAt s k) true (record { queue = f .queue; none = f .none; front = λ w. inl (b w) }) b
+
+-- in a sound state a task that is not the last-run one is below its limit
+below-unless-last : (t : Table) (s : State) (k : ℕ) → TaskSound t s k → (isLast (s .last) k ≡ true → ⊥) →
+    0 < waitingAt s k → runsAt s k < limitAt t (s .mode) k
+below-unless-last t s k f =
+    other-below (limitAt t (s .mode) k) (waitingAt s k) (runsAt s k) (isLast (s .last) k) (task-queue t s k f)
 
 judged-row : (t : Table) (s : State) (j : ℕ) (v : Judged) → s .last ≡ Job j → TableRules t → Shaped s → j < t .ntasks →
     JudgedRight (taskAt t j) (runsAt s j) (s .mode) v → (k : ℕ) → k < t .ntasks → TaskSound t s k →
@@ -228,7 +163,7 @@ judged-row t s j v last rules h below right k l f = go (same-or-not j k)
     other : (j ≡ k → ⊥) → JudgedRow t (withMode s (v .mode)) k
     other n =
         risen-row t s (v .mode) k f
-        (λ w. omega (arith, up, other-below t s k f (λ e. n (eqb-true j k (rw last at e))) w))
+        (λ w. omega (arith, up, below-unless-last t s k f (λ e. n (eqb-true j k (rw last at e))) w))
 
     go : (j ≡ k) ⊎ (j ≡ k → ⊥) → JudgedRow t (judged s j v .state) k
     go (inl e) =
@@ -236,9 +171,9 @@ judged-row t s j v last rules h below right k l f = go (same-or-not j k)
         (λ (m : Marked). JudgedRow t (m .state) k)
         (v .cut)
         (λ c.
-        gone-row t (withMode s (v .mode)) j k
-        (alike-shaped (mode-alike s (v .mode)) h)
-        (omega (arith, rules .tasks-high))
+        gone-judged (queuesOf s) j k (limitAt t (v .mode) k)
+        (omega (arith, rules .tasks-high, h .waiting))
+        (omega (arith, rules .tasks-high, h .runs))
         e
         (f .queue)
         (rules .task k l .limit-low (v .mode)))
@@ -247,16 +182,17 @@ judged-row t s j v last rules h below right k l f = go (same-or-not j k)
         if-ind
         (λ (m : Marked). JudgedRow t (m .state) k)
         (v .cut)
-        (λ c. other-row t (withMode s (v .mode)) j k n (other n))
+        (λ c. other-judged (queuesOf s) j k (limitAt t (v .mode) k) n (other n))
         (λ c. other n)
 
 finished-row : (t : Table) (s : State) (j : ℕ) → s .last ≡ Job j → TableRules t → Shaped s → j < t .ntasks →
     (k : ℕ) → k < t .ntasks → TaskSound t s k → (j ≡ k) ⊎ (j ≡ k → ⊥) → JudgedRow t (withoutFront s j) k
 finished-row t s j last rules h below k l f (inl e) =
-    gone-row t s j k h (omega (arith, rules .tasks-high)) e (f .queue) (rules .task k l .limit-low (s .mode))
+    gone-judged (queuesOf s) j k (limitAt t (s .mode) k) (omega (arith, rules .tasks-high, h .waiting))
+    (omega (arith, rules .tasks-high, h .runs)) e (f .queue) (rules .task k l .limit-low (s .mode))
 finished-row t s j last rules h below k l f (inr n) =
-    other-row t s j k n
-    (risen-row t s (s .mode) k f (other-below t s k f (λ e. n (eqb-true j k (rw last at e)))))
+    other-judged (queuesOf s) j k (limitAt t (s .mode) k) n
+    (risen-row t s (s .mode) k f (below-unless-last t s k f (λ e. n (eqb-true j k (rw last at e)))))
 
 pub step1-row : (t : Table) (s : State) (mark : Bool) (l : Last) → s .last ≡ l → TableRules t → Shaped s →
     StateSound t s →
@@ -264,14 +200,15 @@ pub step1-row : (t : Table) (s : State) (mark : Bool) (l : Last) → s .last ≡
 unfolding step1
 step1-row t s mark NoJob last rules h f k l =
     risen-row t s (s .mode) k (f .tasks k l)
-    (other-below t s k (f .tasks k l) (λ e. clash false (rw last at e) refl))
+    (below-unless-last t s k (f .tasks k l) (λ e. clash false (rw last at e) refl))
 step1-row t s true (Job j) last rules h f k l =
     finished-row t s j last rules h (subst (LastSound t s) last (f .last) .below) k l (f .tasks k l) (same-or-not j k)
 step1-row t s false (Job j) last rules h f k l =
     let q : JobSound t s j = subst (LastSound t s) last (f .last) in
     judged-row t s j (judge 3 (taskAt t j) (runsAt s j) (s .mode)) last rules h (q .below)
     (judged-right (taskAt t j) (runsAt s j) (s .mode) (limits-rise t rules j (q .below))
-    (within-limit t s j (f .tasks j (q .below)) (q .waits)))
+    (within-limit (limitAt t (s .mode) j) (waitingAt s j) (runsAt s j) (isLast (s .last) j)
+    (task-queue t s j (f .tasks j (q .below))) (q .waits)))
     k
     l
     (f .tasks k l)
@@ -403,4 +340,5 @@ pub runs-after : (t : Table) (s : State) (mark : Bool) → t .ntasks ≤ 64 → 
     runsAt (settle t s mark .state) k + ran (choose t (settle t s mark .state)) k
 unfolding tickTaken advance
 runs-after t s mark many h k l =
-    anew-at (t .ntasks) _ (settle t s mark .state .runs) k 0 l (omega (arith, settle-shaped t s mark h .runs))
+    front-ran (t .ntasks) (queuesOf (settle t s mark .state)) (choose t (settle t s mark .state)) k
+    (omega (arith, settle-shaped t s mark h .runs)) l

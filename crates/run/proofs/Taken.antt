@@ -9,12 +9,13 @@ use Rattle.table.specs.declared.Refusal.{Refusal}
 use Rattle.table.specs.declared.Refusal.the-variants.{NoTask, LowInD2, QueueFull, NoJobRan, CountSpent, Unsound}
 use Rattle.table.specs.Rows.{taskAt, isLow, isD2}
 use Rattle.run.specs.declared.Run.{Run}
-use Rattle.run.specs.declared.Answer.the-variants.{Released}
+use Rattle.events.specs.declared.Answer.the-variants.{Released}
 use Rattle.run.specs.declared.Answered.{Answered}
 use Rattle.run.specs.State.{waitingAt}
 use Rattle.run.specs.Sound.{sound}
 use Rattle.run.specs.Release.{refused, withJob, releaseOf}
-use Rattle.run.specs.Tick.{tickTaken, ranJob, ticked, tickOf}
+use Rattle.queues.specs.Queues.{ranJob}
+use Rattle.run.specs.Tick.{tickTaken, ticked, tickOf}
 
 -- the tests of a release and of a tick, in the page's order
 module _ (r : Run) (k : ℕ) where

@@ -21,14 +21,17 @@ use Rattle.table.specs.declared.Mode.the-variants.{N, D1, D2}
 use Rattle.table.specs.declared.Task.{Task}
 use Rattle.table.specs.declared.Table.{Table}
 use Rattle.table.specs.Rows.{serverAt, taskAt, periodAt, priorityAt, capacityAt, taskPriorityAt, isTimed}
-use Rattle.run.specs.declared.Last.the-variants.{Job}
+use Rattle.queues.specs.declared.Last.the-variants.{Job}
 use Rattle.run.specs.declared.State.{State}
-use Rattle.run.specs.declared.Turn.{Turn}
-use Rattle.run.specs.declared.Turn.the-variants.{Run as Ran, Empty, Idle}
+use Rattle.events.specs.declared.Turn.{Turn}
+use Rattle.events.specs.declared.Turn.the-variants.{Run as Ran, Empty, Idle}
 use Rattle.run.specs.State.{usedAt, elapsedAt, owner, taskWaits, waitsFor, waits}
-use Rattle.run.specs.Answers.{one, charged, ran}
+use Rattle.events.specs.Answers.{one, charged, ran}
+use Rattle.events.proofs.Answers.{one-same, one-eq}
 use Rattle.run.specs.Release.{withJob}
-use Rattle.run.specs.Tick.{step4, settle, able, highestAble, highestTask, turnOf, turnFor, choose, lastOf}
+use Rattle.queues.specs.Queues.{lastOf}
+use Rattle.queues.specs.Queues.{turnOf}
+use Rattle.run.specs.Tick.{step4, settle, able, highestAble, highestTask, turnFor, choose}
 use Rattle.run.specs.Tick.{advance, tickTaken}
 use Rattle.run.proofs.Shape.{Shaped, alike-shaped, step123, step123-alike, settle-is, settle-shaped, settle-counts}
 
@@ -114,15 +117,6 @@ pub mode-released : (s : State) (k : ℕ) → withJob s k .mode ≡ s .mode
 mode-released s k = refl
 
 -- Who is charged is the highest able server.
-pub one-same : (i : ℕ) → one i i ≡ 1
-one-same i = rw (eq-eqb i i refl)
-
-pub one-eq : (i j : ℕ) → one i j ≡ 1 → i ≡ j
-one-eq i j = if-ind (λ (n : ℕ). n ≡ 1 → i ≡ j) (eqb i j) (λ e f. eqb-true i j e) (λ e f. absurd (omega arith))
-
-pub one-is : (i j : ℕ) → (one i j ≡ 0) ⊎ (one i j ≡ 1)
-one-is i j = if-ind (λ (n : ℕ). (n ≡ 0) ⊎ (n ≡ 1)) (eqb i j) (λ e. inr refl) (λ e. inl refl)
-
 charged-turn : (j : ℕ) (a : Found) (i : ℕ) → charged (turnOf j a) i ≡ one j i
 charged-turn j (At k) i = refl
 charged-turn j Nothing i = refl
@@ -220,15 +214,6 @@ able-cause t z i a =
     (isTimed (serverAt t i .kind) || waits t z i)
     a)
 
--- T5
-pub charged-is : (turn : Turn) (i : ℕ) → (charged turn i ≡ 0) ⊎ (charged turn i ≡ 1)
-charged-is (Ran j k) i = one-is j i
-charged-is (Empty j) i = one-is j i
-charged-is Idle i = inl refl
-
-pub charged-le : (turn : Turn) (i : ℕ) → charged turn i ≤ 1
-charged-le turn i = elim (charged-is turn i) [ inl e ↦ omega arith | inr e ↦ omega arith ]
-
 -- T6. Server i is charged and runs the front job of its highest task with a waiting job, task k.
 pub record RunsFront (t : Table) (z : State) (i k : ℕ) : Type 0 where
   pub found : highestTask t z i ≡ At k
@@ -292,11 +277,6 @@ ran-front t z k r = go (highestAble t z) refl
         let says : choose t z ≡ Idle = rw e in
         absurd (omega (arith, ap (λ u. ran u k) says, r))
 
-pub ran-is : (turn : Turn) (k : ℕ) → (ran turn k ≡ 0) ⊎ (ran turn k ≡ 1)
-ran-is (Ran i j) k = one-is j k
-ran-is (Empty i) k = inl refl
-ran-is Idle k = inl refl
-
 pub charged-empty : (t : Table) (z : State) (i : ℕ) → charged (choose t z) i ≡ 1 → waits t z i ≡ false →
     (choose t z ≡ Empty i) × (isTimed (serverAt t i .kind) ≡ true)
 unfolding waits highestTask choose
@@ -311,12 +291,6 @@ charged-empty t z i c n = (go (highestTask t z i) refl, kind (able-cause t z i (
     kind : (isTimed (serverAt t i .kind) ≡ true) ⊎ (waits t z i ≡ true) → isTimed (serverAt t i .kind) ≡ true
     kind (inl k) = k
     kind (inr w) = absurd (clash (waits t z i) w n)
-
--- At most one server is charged in a tick. No bound rests on this.
-pub one-charged : (turn : Turn) (i j : ℕ) → charged turn i ≡ 1 → charged turn j ≡ 1 → i ≡ j
-one-charged (Ran k n) i j p q = sym (one-eq k i p) ∙ one-eq k j q
-one-charged (Empty k) i j p q = sym (one-eq k i p) ∙ one-eq k j q
-one-charged Idle i j p q = absurd (omega arith)
 
 -- What a tick says, by the highest able server and its highest task with a waiting job.
 pub turn-run : (f : ℕ → Found) (a : Found) (i k : ℕ) → turnFor f a ≡ Ran i k → (a ≡ At i) × (f i ≡ At k)

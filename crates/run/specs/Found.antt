@@ -11,15 +11,15 @@ use Rattle.table.specs.declared.Table.{Table}
 use Rattle.table.specs.Rows.{taskPriorityAt}
 use Rattle.run.specs.declared.State.{State}
 use Rattle.run.specs.declared.Run.{Run}
-use Rattle.run.specs.declared.TickAnswer.{TickAnswer}
-use Rattle.run.specs.declared.Event.{Event}
-use Rattle.run.specs.declared.Event.the-variants.{Release, Tick}
-use Rattle.run.specs.declared.Answer.{Answer}
-use Rattle.run.specs.declared.Answer.the-variants.{Released, Ticked, No}
+use Rattle.events.specs.declared.TickAnswer.{TickAnswer}
+use Rattle.events.specs.declared.Event.{Event}
+use Rattle.events.specs.declared.Event.the-variants.{Release, Tick}
+use Rattle.events.specs.declared.Answer.{Answer}
+use Rattle.events.specs.declared.Answer.the-variants.{Released, Ticked, No}
 use Rattle.run.specs.Tick.{Settled, settle, highestTask}
-use Rattle.run.specs.declared.Told.the-variants.{Ticked as ToldTicked}
+use Rattle.events.specs.declared.Told.the-variants.{Ticked as ToldTicked}
 use Rattle.run.specs.Events.{eventOf}
-use Rattle.run.specs.Values.{toldValues}
+use Rattle.events.specs.Values.{toldValues}
 
 -- A taken tick: what step 5 finds, how many jobs of each task step 2 discards, and what is answered.
 pub record TakenTick : Type 0 where

@@ -8,50 +8,33 @@ use lib.Dec.{leb}
 use lib.ListN.{length, drop}
 use Rattle.laws.specs.Choice.{unless_say_else_}
 use Rattle.table.specs.declared.Refusal.{Refusal}
-use Rattle.table.specs.declared.Refusal.the-variants.{Malformed, RoomShort, Unsound}
-use Rattle.table.specs.Refusals.{numberOf}
+use Rattle.table.specs.declared.Refusal.the-variants.{RoomShort, Unsound}
 use Rattle.run.specs.declared.Run.{Run}
-use Rattle.run.specs.declared.EventLine.{EventLine}
-use Rattle.run.specs.declared.EventLine.the-variants.{Of, Another}
-use Rattle.run.specs.declared.Told.{Told}
-use Rattle.run.specs.declared.Told.the-variants.{No}
-use Rattle.run.specs.declared.Taking.{Taking}
-use Rattle.run.specs.declared.Taking.the-variants.{Taken, Refused}
+use Rattle.events.specs.declared.EventLine.{EventLine}
+use Rattle.events.specs.declared.EventLine.the-variants.{Of, Another}
+use Rattle.events.specs.declared.Told.{Told}
+use Rattle.events.specs.declared.Taking.the-variants.{Taken, Refused}
 use Rattle.run.specs.declared.Many.{Many}
 use Rattle.run.specs.declared.Finding.{Finding}
 use Rattle.run.specs.Sound.{sound}
-use Rattle.run.specs.Events.{eventOf}
-use Rattle.run.specs.Values.{toldOf, linesSaid, toldValues}
+use Rattle.events.specs.Values.{linesSaid, allValues}
+use Rattle.events.specs.Boxes.{toldIn, afterLineIn, toldAllIn, afterLinesIn}
+use Rattle.run.specs.Events.{eventOf, theBox}
 use Rattle.run.specs.Found.{TakenTick, takenBy, allFound, allTold}
 
--- what is told to a line, and the run after it; "another line .. answers `?⇥no⇥1`" and changes
--- nothing
+-- what is told to a line, and the run after it
 abbrev pub toldTo : Run → EventLine → Told
-toldTo r (Of e) = toldOf (eventOf r e .answer)
-toldTo r Another = No (numberOf Malformed)
+toldTo r l = toldIn theBox r l
 
 abbrev pub afterLine : Run → EventLine → Run
-afterLine r (Of e) = eventOf r e .run
-afterLine r Another = r
+afterLine r l = afterLineIn theBox r l
 
 -- the same for some lines, one after the other
-unfoldable pub toldToAll : Run → List EventLine → List Told
-toldToAll r [] = []
-toldToAll r (l ∷ ls) = toldTo r l ∷ toldToAll (afterLine r l) ls
+abbrev pub toldToAll : Run → List EventLine → List Told
+toldToAll r ls = toldAllIn theBox r ls
 
-unfoldable pub afterLines : Run → List EventLine → Run
-afterLines r [] = r
-afterLines r (l ∷ ls) = afterLines (afterLine r l) ls
-
--- all of it as numbers
-unfoldable pub allValues : List Told → List ℕ
-allValues [] = []
-allValues (x ∷ xs) = toldValues x ++ allValues xs
-
--- The paper's number of each answer, 0 where the lines are taken.
-abbrev pub takingNumber : Taking → ℕ
-takingNumber Taken = 0
-takingNumber (Refused why) = numberOf why
+abbrev pub afterLines : Run → List EventLine → Run
+afterLines r ls = afterLinesIn theBox r ls
 
 -- what is handed back, and the lent room after it
 pub record Lent : Type 0 where

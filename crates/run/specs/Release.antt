@@ -2,20 +2,20 @@
 use mathlib.Core.Bool.{not, _&&_}
 use Prim.Native.Nat.{ℕ, _+_}
 use lib.Dec.{ltb}
-use lib.ListN.{set}
 use Rattle.laws.specs.Choice.{unless_say_else_}
 use Rattle.table.specs.declared.Table.{Table}
 use Rattle.table.specs.declared.Refusal.{Refusal}
 use Rattle.table.specs.declared.Refusal.the-variants.{NoTask, LowInD2, QueueFull, CountSpent, Unsound}
 use Rattle.table.specs.Rows.{taskAt, isLow, isD2}
 use Rattle.table.specs.Rules.{tableKeeps}
+use Rattle.queues.specs.Queues.{joined}
 use Rattle.run.specs.declared.State.{State}
 use Rattle.run.specs.declared.Run.{Run}
-use Rattle.run.specs.declared.Answer.the-variants.{Released, No}
-use Rattle.run.specs.declared.Starting.the-variants.{Started, Refused}
+use Rattle.events.specs.declared.Answer.the-variants.{Released, No}
+use Rattle.events.specs.declared.Starting.the-variants.{Started, Refused}
 use Rattle.run.specs.declared.Begun.{Begun}
 use Rattle.run.specs.declared.Answered.{Answered}
-use Rattle.run.specs.State.{waitingAt, withQueues, withCounts, fresh}
+use Rattle.run.specs.State.{queuesOf, waitingAt, withQueues, withCounts, fresh}
 use Rattle.run.specs.Sound.{sound}
 
 -- a refusal: "state as it was", "it, as it was"
@@ -35,8 +35,7 @@ startOf t =
 
 -- "A release adds one job at the back of its task's queue; releases are never merged."
 abbrev pub withJob : State → ℕ → State
-withJob s k =
-    withCounts (withQueues s (set (s .waiting) k (waitingAt s k + 1)) (s .runs)) (s .ticks) (s .accepted + 1)
+withJob s k = withCounts (withQueues s (joined (queuesOf s) k)) (s .ticks) (s .accepted + 1)
 
 -- "Others: 13 first; release 6, 7, 8, 10"
 unfoldable pub releaseOf : Run → ℕ → Answered

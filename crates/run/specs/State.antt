@@ -2,7 +2,7 @@
 use mathlib.Core.Bool.{Bool, _&&_}
 use mathlib.Core.List.{List}
 use Prim.Native.Nat.{ℕ}
-use lib.Dec.{ltb, eqb}
+use lib.Dec.{eqb}
 use lib.ListN.{getD, replicate}
 use Rattle.laws.specs.Rows.{anyBelow}
 use Rattle.units.specs.declared.Ticks.{Ticks}
@@ -11,8 +11,9 @@ use Rattle.table.specs.declared.Mode.the-variants.{N, D1, D2}
 use Rattle.table.specs.declared.Task.{Task}
 use Rattle.table.specs.declared.Table.{Table}
 use Rattle.table.specs.Rows.{taskAt}
-use Rattle.run.specs.declared.Last.{Last}
-use Rattle.run.specs.declared.Last.the-variants.{NoJob}
+use Rattle.queues.specs.declared.Last.{Last}
+use Rattle.queues.specs.declared.Last.the-variants.{NoJob}
+use Rattle.queues.specs.Queues.{Queues, waitingIn, runsIn, waitsIn, noJobs}
 use Rattle.run.specs.declared.State.{State}
 
 abbrev pub usedAt : State → ℕ → ℕ
@@ -21,12 +22,16 @@ usedAt s i = getD (s .used) i 0
 abbrev pub elapsedAt : State → ℕ → ℕ
 elapsedAt s i = getD (s .elapsed) i 0
 
+-- the tasks' queues
+abbrev pub queuesOf : State → Queues
+queuesOf s = record { waiting = s .waiting; runs = s .runs }
+
 abbrev pub waitingAt : State → ℕ → ℕ
-waitingAt s k = getD (s .waiting) k 0
+waitingAt s k = waitingIn (queuesOf s) k
 
 -- the run count of the front job
 abbrev pub runsAt : State → ℕ → ℕ
-runsAt s k = getD (s .runs) k 0
+runsAt s k = runsIn (queuesOf s) k
 
 -- "In N a task belongs to its home, else to its degraded server."
 abbrev pub owner : Mode → Task → ℕ
@@ -36,7 +41,7 @@ owner D2 k = k .degraded
 
 -- task k has a waiting job
 abbrev pub taskWaits : State → ℕ → Bool
-taskWaits s k = ltb 0 (waitingAt s k)
+taskWaits s k = waitsIn (queuesOf s) k
 
 -- task k belongs to server i and has a waiting job
 abbrev pub waitsFor : Table → State → ℕ → ℕ → Bool
@@ -78,14 +83,14 @@ withBudgets s used elapsed =
     }
 
 -- the tasks' queues
-abbrev pub withQueues : State → List ℕ → List ℕ → State
-withQueues s waiting runs =
+abbrev pub withQueues : State → Queues → State
+withQueues s q =
     record {
       mode = s .mode;
       used = s .used;
       elapsed = s .elapsed;
-      waiting = waiting;
-      runs = runs;
+      waiting = q .waiting;
+      runs = q .runs;
       last = s .last;
       ticks = s .ticks;
       accepted = s .accepted;
@@ -125,8 +130,8 @@ fresh =
       mode = N;
       used = replicate 32 0;
       elapsed = replicate 32 0;
-      waiting = replicate 64 0;
-      runs = replicate 64 0;
+      waiting = noJobs .waiting;
+      runs = noJobs .runs;
       last = NoJob;
       ticks = record { 0 = 0 };
       accepted = 0;

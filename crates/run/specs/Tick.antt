@@ -2,7 +2,6 @@
 use mathlib.Core.Bool.{Bool, true, false, not, _&&_, _||_}
 use Prim.Native.Nat.{ℕ, zero, suc, _+_, _-_}
 use lib.Dec.{ltb, eqb}
-use lib.ListN.{set}
 use Rattle.laws.specs.declared.Found.{Found}
 use Rattle.laws.specs.declared.Found.the-variants.{At, Nothing}
 use Rattle.laws.specs.Choice.{if_then_else_, unless_say_else_}
@@ -16,22 +15,23 @@ use Rattle.table.specs.declared.Task.{Task}
 use Rattle.table.specs.declared.Table.{Table}
 use Rattle.table.specs.declared.Refusal.the-variants.{NoJobRan, CountSpent, Unsound}
 use Rattle.table.specs.Rows.{serverAt, taskAt, inMode, periodAt, priorityAt, capacityAt, taskPriorityAt, isTimed, isLow, isD2}
-use Rattle.run.specs.declared.Last.{Last}
-use Rattle.run.specs.declared.Last.the-variants.{NoJob, Job}
+use Rattle.queues.specs.declared.Last.{Last}
+use Rattle.queues.specs.declared.Last.the-variants.{NoJob, Job}
+use Rattle.queues.specs.Queues.{frontGone, highestWaiting, turnOf, frontRan, lastOf, ranJob}
 use Rattle.run.specs.declared.State.{State}
 use Rattle.run.specs.declared.Run.{Run}
-use Rattle.run.specs.declared.Turn.{Turn}
-use Rattle.run.specs.declared.Turn.the-variants.{Run as Ran, Empty, Idle}
+use Rattle.events.specs.declared.Turn.{Turn}
+use Rattle.events.specs.declared.Turn.the-variants.{Run as Ran, Empty, Idle}
 use Rattle.run.specs.declared.Judged.{Judged}
-use Rattle.run.specs.declared.Left.{Left}
-use Rattle.run.specs.declared.Left.the-variants.{Nobody, Done, Cut}
-use Rattle.run.specs.declared.TickAnswer.{TickAnswer}
-use Rattle.run.specs.declared.Answer.the-variants.{Ticked}
+use Rattle.events.specs.declared.Left.{Left}
+use Rattle.events.specs.declared.Left.the-variants.{Nobody, Done, Cut}
+use Rattle.events.specs.declared.TickAnswer.{TickAnswer}
+use Rattle.events.specs.declared.Answer.the-variants.{Ticked}
 use Rattle.run.specs.declared.Answered.{Answered}
-use Rattle.run.specs.State.{usedAt, elapsedAt, waitingAt, runsAt, waitsFor, waits, someWaits, withMode, withBudgets}
+use Rattle.run.specs.State.{queuesOf, usedAt, elapsedAt, waitingAt, runsAt, owner, waits, someWaits, withMode, withBudgets}
 use Rattle.run.specs.State.{withQueues, withLast, withCounts}
 use Rattle.run.specs.Sound.{sound}
-use Rattle.run.specs.Answers.{charged, ran}
+use Rattle.events.specs.Answers.{charged}
 use Rattle.run.specs.Release.{refused}
 
 -- Step 1, as request No. 4 of document 02 has it: "at its limit a job raises the mode only if its
@@ -71,7 +71,7 @@ judge (suc n) k c m =
 
 -- the front job of task k leaves: one fewer waits, and "the front job's count starts at 0"
 abbrev pub withoutFront : State → ℕ → State
-withoutFront s k = withQueues s (set (s .waiting) k (waitingAt s k - 1)) (set (s .runs) k 0)
+withoutFront s k = withQueues s (frontGone (queuesOf s) k)
 
 -- a state, and the job that left
 pub record Marked : Type 0 where
@@ -112,8 +112,10 @@ unfoldable pub step2 : Table → Mode → State → State
 step2 t before s =
     withQueues
     s
-    (anew (t .ntasks) (λ k w. if drops t before s k then 0 else w) (s .waiting))
-    (anew (t .ntasks) (λ k c. if drops t before s k then 0 else c) (s .runs))
+    (record {
+      waiting = anew (t .ntasks) (λ k w. if drops t before s k then 0 else w) (s .waiting);
+      runs = anew (t .ntasks) (λ k c. if drops t before s k then 0 else c) (s .runs);
+    })
 
 -- Step 3. "Mode not N and no job waiting: mode N."
 unfoldable pub step3 : Table → State → State
@@ -157,14 +159,11 @@ highestAble t s = highest (t .nservers) (able t s) (priorityAt t)
 
 -- Step 6. "Its highest task with a waiting job runs the front job"
 unfoldable pub highestTask : Table → State → ℕ → Found
-highestTask t s i = highest (t .ntasks) (waitsFor t s i) (taskPriorityAt t)
+highestTask t s i =
+    highestWaiting (t .ntasks) (queuesOf s) (λ k. eqb (owner (s .mode) (taskAt t k)) i) (taskPriorityAt t)
 
 -- "Each taken tick says one of three things: `run` with server and task, `empty` with the timed
 -- server charged, or `idle`."
-abbrev pub turnOf : ℕ → Found → Turn
-turnOf i (At k) = Ran i k
-turnOf i Nothing = Empty i
-
 abbrev pub turnFor : (ℕ → Found) → Found → Turn
 turnFor task (At i) = turnOf i (task i)
 turnFor task Nothing = Idle
@@ -177,16 +176,9 @@ choose t s = turnFor (highestTask t s) (highestAble t s)
 abbrev pub step5 : Table → State → Turn → State
 step5 t s turn = withBudgets s (anew (t .nservers) (λ i u. u + charged turn i) (s .used)) (s .elapsed)
 
--- the job that is run in this tick is the last-run job of the next
-abbrev pub lastOf : Turn → Last
-lastOf (Ran i k) = Job k
-lastOf (Empty i) = NoJob
-lastOf Idle = NoJob
-
 -- Step 6. "runs the front job: run count plus 1"
 abbrev pub step6 : Table → State → Turn → State
-step6 t s turn =
-    withLast (withQueues s (s .waiting) (anew (t .ntasks) (λ k c. c + ran turn k) (s .runs))) (lastOf turn)
+step6 t s turn = withLast (withQueues s (frontRan (t .ntasks) (queuesOf s) turn)) (lastOf turn)
 
 -- Step 7. "All elapsed counts and the tick number rise by 1."
 abbrev pub step7 : Table → State → State
@@ -220,15 +212,10 @@ tickTaken t s mark =
     let z = settle t s mark in
     record { answer = tickAnswer t (s .ticks) z; state = advance t (z .state) (choose t (z .state)) }
 
--- 9: "mark 1, but no tick was taken yet or the last one ran no job"
-abbrev pub ranJob : Last → Bool
-ranJob NoJob = false
-ranJob (Job k) = true
-
 abbrev pub ticked : Run → Stepped → Answered
 ticked r d = record { answer = Ticked (d .answer); run = record { table = r .table; state = d .state } }
 
--- "Others: 13 first; .. tick 9, 10"
+-- "Others: 13 first; .. tick 9, 10". 9: "mark 1, but no tick was taken yet or the last one ran no job"
 unfoldable pub tickOf : Run → Bool → Answered
 tickOf r mark =
     unless sound r say refused r Unsound

@@ -1,7 +1,7 @@
 // What steps 5 to 7 of a tick change. (01, What one tick does.)
 
 use crate::parts::Head;
-use run::Turn;
+use events::Turn;
 use table::SERVERS;
 use table::TASKS;
 use units::Ticks;
@@ -41,14 +41,6 @@ fn add_used(used: &mut [u32; SERVERS], i: usize)
     used[i] = used[i] + 1;
 }
 
-// "run count plus 1"
-fn add_run(runs: &mut [u32; TASKS], k: usize)
-    requires { ⌜ (k < 64) × (getD (now runs) k 0 ≤ 1000000) ⌝ }
-    ensures { λ r. ⌜ now (runs .exit) ≡ set (now (runs .entry)) k (getD (now (runs .entry)) k 0 + 1) ⌝ }
-{
-    runs[k] = runs[k] + 1;
-}
-
 // Step 5: "The highest is charged: used plus 1."
 fn charge(turn: Turn, used: &mut [u32; SERVERS])
     requires { ⌜ ChargeFits turn (now used) ⌝ }
@@ -72,7 +64,7 @@ fn run_front(turn: Turn, runs: &mut [u32; TASKS])
 {
     match turn {
         Turn::Run { server: _, task } => {
-            add_run(runs, task);
+            queues::run_front(task, runs);
         }
         Turn::Empty { server: _ } => {}
         Turn::Idle => {}

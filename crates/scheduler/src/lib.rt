@@ -5,20 +5,20 @@
 
 mod advance;
 mod choose;
-mod events;
+mod event;
 pub mod many;
 mod parts;
 mod settle;
 mod sheets;
 
-use run::Answer;
+use events::Answer;
+use events::Event;
+use events::Starting;
+use queues::Last;
 use run::Answered;
 use run::Begun;
-use run::Event;
 use run::FOUND_VALUES;
-use run::Last;
 use run::Run;
-use run::Starting;
 use run::State;
 use table::Mode;
 use table::Refusal;
@@ -88,7 +88,7 @@ fn answer_event(r: Run, e: Event) -> Answered
     let servers = sheets::server_sheet(rows);
     let tasks = sheets::task_sheet(ks);
     let mut found = [0u8; FOUND_VALUES];
-    let d = events::event_in(
+    let d = event::event_in(
         h,
         &servers,
         &tasks,

@@ -1,28 +1,24 @@
 // Many event lines at once: events to answers. Soundness (13) is decided once for all of them;
 // behind that door stands a loop over the lines, which is lent the table's sheets and the counts of
-// its rows. Lines and what is told to them are plain numbers, as crate run's specs/Values.antt lays
-// them out. A second door hands out of the ticks taken among the lines what is told and what is found
+// its rows. Lines and what is told to them are plain numbers, as crate events lays them out
+// (specs/Values.antt). A second door hands out of the ticks taken among the lines what is told and what is found
 // (specs/Found.antt).
 
-use crate::events;
+use crate::event;
 use crate::parts;
 use crate::parts::Head;
 use crate::sheets;
 use crate::sheets::SERVER_CELLS;
 use crate::sheets::TASK_CELLS;
-use run::Answer;
-use run::Event;
-use run::EventLine;
+use events::EventLine;
+use events::LINE_VALUES;
+use events::TOLD_VALUES;
+use events::Taking;
+use events::Told;
 use run::FOUND_VALUES;
 use run::Finding;
-use run::LINE_VALUES;
-use run::Left;
 use run::Many;
 use run::Run;
-use run::TOLD_VALUES;
-use run::Taking;
-use run::Told;
-use run::Turn;
 use table::Refusal;
 use table::SERVERS;
 use table::TASKS;
@@ -30,7 +26,6 @@ ghost use mathlib.Core.Path.{_≡_};
 ghost use Prim.Native.Nat.{_+_, _*_, _/_, _≤_};
 ghost use lib.ListN.{length};
 ghost use lib.Seq.{paste};
-ghost use Rattle.run.specs.Values.{lineSaid, toldOf, turnValues, leftValues, toldValues};
 ghost use Rattle.run.specs.Many.{manyOf, findOf};
 ghost use Rattle.scheduler.specs.Inner.Steps.{noneFound};
 ghost use Rattle.scheduler.specs.Inner.Events.{SomeRun};
@@ -46,87 +41,6 @@ pub struct Reply {
 pub struct Passed {
     pub head: Head,
     pub ticks: usize,
-}
-
-fn line_said(x: u64, v: u64) -> EventLine
-    ensures { λ r. ⌜ r ≡ lineSaid x v ⌝ }
-{
-    if x == 0 {
-        return EventLine::Another;
-    }
-    if x == 1 {
-        return EventLine::Of(Event::Tick(v != 0));
-    }
-    EventLine::Of(Event::Release(v as usize))
-}
-
-fn told_of(a: Answer) -> Told
-    ensures { λ r. ⌜ r ≡ toldOf a ⌝ }
-{
-    match a {
-        Answer::Released(k) => Told::Released(k),
-        Answer::Ticked(t) => Told::Ticked(t),
-        Answer::No(why) => Told::No(table::number_of(why)),
-    }
-}
-
-fn turn_values(turn: Turn) -> [u64; 3]
-    ensures { λ r. ⌜ r ≡ turnValues turn ⌝ }
-{
-    match turn {
-        Turn::Idle => [0, 0, 0],
-        Turn::Empty { server } => [1, server as u64, 0],
-        Turn::Run { server, task } => [2, server as u64, task as u64],
-    }
-}
-
-fn left_values(left: Left) -> [u64; 2]
-    ensures { λ r. ⌜ r ≡ leftValues left ⌝ }
-{
-    match left {
-        Left::Nobody => [0, 0],
-        Left::Done(k) => [1, k as u64],
-        Left::Cut(k) => [2, k as u64],
-    }
-}
-
-fn told_values(x: Told) -> [u64; TOLD_VALUES]
-    ensures { λ r. ⌜ r ≡ toldValues x ⌝ }
-{
-    match x {
-        Told::No(number) => [0, number, 0, 0, 0, 0, 0, 0, 0],
-        Told::Released(k) => [1, k as u64, 0, 0, 0, 0, 0, 0, 0],
-        Told::Ticked(a) => {
-            let tick = a.tick;
-            let mode = a.mode;
-            let turn = a.turn;
-            let left = a.left;
-            let m = table::mode_value(mode);
-            let w = turn_values(turn);
-            let l = left_values(left);
-            [
-                2,
-                tick.0 as u64,
-                m,
-                w[0],
-                w[1],
-                w[2],
-                l[0],
-                l[1],
-                a.discarded as u64,
-            ]
-        }
-    }
-}
-
-// Nine numbers written into the room from place `at` on.
-fn put_values(values: &[u64; TOLD_VALUES], room: &mut [u64], at: usize)
-    requires { ⌜ (length (now values) ≡ 9) × (at + 9 ≤ length (now room)) ⌝ }
-    ensures { λ r. ⌜ now (room .exit) ≡ paste (now (room .entry)) at (now (values .entry)) 9 ⌝ }
-{
-    for j in 0..TOLD_VALUES {
-        room[at + j] = values[j];
-    }
 }
 
 // What is found at a tick, written into the room from place `at` on.
@@ -161,10 +75,10 @@ fn answer_line(
 {
     match line {
         EventLine::Of(e) => {
-            let d = events::event_in(h, servers, tasks, used, elapsed, waiting, runs, found, e);
+            let d = event::event_in(h, servers, tasks, used, elapsed, waiting, runs, found, e);
             let answer = d.answer;
             let head = d.head;
-            let told = told_of(answer);
+            let told = events::told_of(answer);
             Reply { told, head }
         }
         EventLine::Another => {
@@ -200,7 +114,7 @@ fn answer_lines(
     let n = lines.len() / LINE_VALUES;
     for i in 0..n {
         let at = LINE_VALUES * i;
-        let line = line_said(lines[at], lines[at + 1]);
+        let line = events::line_said(lines[at], lines[at + 1]);
         let mut seen = [0u8; FOUND_VALUES];
         let r = answer_line(
             head,
@@ -215,8 +129,7 @@ fn answer_lines(
         );
         head = r.head;
         let x = r.told;
-        let values = told_values(x);
-        put_values(&values, told, TOLD_VALUES * i);
+        events::put_told(x, told, TOLD_VALUES * i);
     }
     head
 }
@@ -248,8 +161,7 @@ fn put_tick(
     if !is_tick(x) {
         return m;
     }
-    let values = told_values(x);
-    put_values(&values, told, TOLD_VALUES * m);
+    events::put_told(x, told, TOLD_VALUES * m);
     put_found(seen, found, FOUND_VALUES * m);
     m + 1
 }
@@ -281,7 +193,7 @@ fn find_lines(
     let n = lines.len() / LINE_VALUES;
     for i in 0..n {
         let at = LINE_VALUES * i;
-        let line = line_said(lines[at], lines[at + 1]);
+        let line = events::line_said(lines[at], lines[at + 1]);
         let mut seen = [0u8; FOUND_VALUES];
         let r = answer_line(
             head,

@@ -1,8 +1,8 @@
 // A run in parts: its head, which is small and handed on by value, and the counts of its rows,
 // which are lent.
 
-use run::Answer;
-use run::Last;
+use events::Answer;
+use queues::Last;
 use run::Run;
 use run::State;
 use table::Mode;
@@ -11,7 +11,6 @@ use table::TASKS;
 use table::Table;
 use units::Ticks;
 ghost use mathlib.Core.Path.{_≡_};
-ghost use Rattle.run.specs.Tick.{ranJob};
 ghost use Rattle.scheduler.specs.Inner.Parts.{lastTask, lastIn, headOf, runOf};
 
 // A run without its rows and their counts. `ran` says whether the last taken tick ran a job, and
@@ -31,15 +30,6 @@ pub struct Head {
 pub struct Step {
     pub answer: Answer,
     pub head: Head,
-}
-
-fn ran_job(last: Last) -> bool
-    ensures { λ r. ⌜ r ≡ ranJob last ⌝ }
-{
-    match last {
-        Last::NoJob => false,
-        Last::Job(_) => true,
-    }
 }
 
 fn last_task(last: Last) -> usize
@@ -66,7 +56,7 @@ pub(crate) fn head_of(t: Table, s: State) -> Head
     let mode = s.mode;
     let last = s.last;
     let ticks = s.ticks;
-    let ran = ran_job(last);
+    let ran = queues::ran_job(last);
     let task = last_task(last);
     Head {
         nservers: t.nservers,

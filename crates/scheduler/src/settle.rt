@@ -9,9 +9,9 @@ use crate::sheets::LIMIT_N;
 use crate::sheets::PERIOD;
 use crate::sheets::SERVER_CELLS;
 use crate::sheets::TASK_CELLS;
+use events::Left;
 use run::FOUND_VALUES;
 use run::Judged;
-use run::Left;
 use table::ByMode;
 use table::Level;
 use table::Mode;
@@ -19,8 +19,8 @@ use table::SERVERS;
 use table::TASKS;
 use units::Ticks;
 ghost use mathlib.Core.Path.{_≡_};
-ghost use Prim.Native.Nat.{_+_, _-_, _≤_, _<_};
-ghost use lib.ListN.{getD, set};
+ghost use Prim.Native.Nat.{_+_, _≤_, _<_};
+ghost use lib.ListN.{getD};
 ghost use Rattle.laws.specs.Choice.{if_then_else_};
 ghost use Rattle.laws.specs.Rows.{anew, anyBelow, sumBelow};
 ghost use Rattle.run.specs.Tick.{countsAs, raises, raised, enters};
@@ -102,17 +102,6 @@ fn limits_of(tasks: &[u32; TASK_CELLS], k: usize) -> ByMode
     }
 }
 
-// The front job of task k leaves, and the next one's count starts at 0.
-fn leave(k: usize, waiting: &mut [u8; TASKS], runs: &mut [u32; TASKS])
-    requires { ⌜ (k < 64) × (0 < getD (now waiting) k 0) ⌝ }
-    ensures { λ r.
-        ⌜ (now (waiting .exit) ≡ set (now (waiting .entry)) k (getD (now (waiting .entry)) k 0 - 1))
-        × (now (runs .exit) ≡ set (now (runs .entry)) k 0) ⌝ }
-{
-    waiting[k] = waiting[k] - 1;
-    runs[k] = 0;
-}
-
 // Step 1.
 fn mark_job(
     h: Head,
@@ -135,7 +124,7 @@ fn mark_job(
         };
     }
     if mark {
-        leave(k, waiting, runs);
+        queues::leave(k, waiting, runs);
         return Risen {
             mode: m,
             left: Left::Done(k),
@@ -146,7 +135,7 @@ fn mark_job(
     let j = judge_job(x, l, runs[k], m);
     let after = j.mode;
     if j.cut {
-        leave(k, waiting, runs);
+        queues::leave(k, waiting, runs);
         return Risen {
             mode: after,
             left: Left::Cut(k),
@@ -187,7 +176,7 @@ fn drop_low(
     let mut count: u32 = 0;
     for k in 0..n {
         if sheets::task_cell(tasks, LEVEL, k) == 0 {
-            count += run::job_count(waiting[k]);
+            count += queues::job_count(waiting[k]);
             found[SERVERS + k] = waiting[k];
             waiting[k] = 0;
             runs[k] = 0;

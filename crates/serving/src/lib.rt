@@ -1,26 +1,26 @@
 // A buffer of an event file, served: bytes to event lines, event lines to what is told to them,
 // what is told to bytes. (01, One night in full.) The three rooms stand in the crates below; this
-// is their composition, and no loop over bytes is here.
+// is their composition, and no loop over bytes is here. (crates/frameserving is the same for a frame
+// box: there is no code over both structs, but one law.)
 
 use cutter::cut_lines;
+use events::LINE_VALUES;
+use events::TOLD_VALUES;
+use events::Taking;
+use lines::BATCH;
 use lines::Cut;
 use lines::Held;
-use lines::LONGEST_ANSWER;
+use lines::lines_at_once;
 use printer::print_lines;
-use run::LINE_VALUES;
 use run::Run;
-use run::TOLD_VALUES;
-use run::Taking;
 use scheduler::many::answer_many;
 use table::Refusal;
 ghost use mathlib.Core.Path.{_≡_};
 ghost use lib.ListN.{length};
-ghost use Rattle.run.specs.Values.{linesSaid};
-ghost use Rattle.serving.specs.Buffer.{untaken, linesAtOnce, serveOf};
-ghost use Rattle.serving.specs.Inner.{Fit, answeredCut};
-
-// So many lines at most are taken at once.
-pub const BATCH: usize = 1024;
+ghost use Rattle.events.specs.Values.{linesSaid};
+ghost use Rattle.run.specs.Events.{theBox};
+ghost use Rattle.lines.specs.Inner.{Fit, answeredCut};
+ghost use Rattle.serving.specs.Buffer.{untaken, serviceOf, serveOf};
 
 // What is handed back for a buffer: the run and the line that is not closed yet, after it; how many
 // of its bytes were taken, and how many bytes of the lent room are their answers.
@@ -31,17 +31,6 @@ pub struct Served {
     pub held: Held,
     pub eaten: usize,
     pub put: usize,
-}
-
-// How many lines a room surely holds the answers of, at most a batch.
-fn lines_at_once(room: usize) -> usize
-    ensures { λ r. ⌜ r ≡ linesAtOnce room ⌝ }
-{
-    let fit = room / LONGEST_ANSWER;
-    if fit < BATCH {
-        return fit;
-    }
-    BATCH
 }
 
 // 12 and 13: nothing is taken, and what was handed in comes back.
@@ -61,8 +50,8 @@ fn refused(why: Refusal, r: Run, h: Held) -> Served
 fn answer_lines(r: Run, h: Held, c: Cut, lines: &[u64], room: &mut [u8]) -> Served
     requires { ⌜ Fit (now lines) (length (now room)) ⌝ }
     ensures { λ a.
-        ⌜ record { served = a; room = now (room .exit) }
-        ≡ answeredCut r h c (linesSaid (now (lines .entry))) (now (room .entry)) ⌝ }
+        ⌜ serviceOf (record { served = a; room = now (room .exit) })
+        ≡ answeredCut theBox r h c (linesSaid (now (lines .entry))) (now (room .entry)) ⌝ }
 {
     let mut told = [0u64; TOLD_VALUES * BATCH];
     let m = answer_many(r, lines, &mut told);

@@ -2,19 +2,17 @@
 use mathlib.Core.Path.{_≡_, refl}
 use mathlib.Core.Bool.{true, false, _&&_}
 use mathlib.Core.List.{[], _∷_}
-use Prim.Native.Nat.{ℕ, _≤_, _<_}
-use lib.Dec.{leb}
-use borrow.Author.Tests.{lt-ltb, le-ltb}
+use Prim.Native.Nat.{ℕ, _≤_}
 use Rattle.laws.specs.Choice.{every, within}
 use Rattle.laws.proofs.Choice.{and-left, and-right, within-high}
 use Rattle.table.specs.declared.Table.{Table}
 use Rattle.table.specs.Rows.{serverAt, taskAt, rowsOf}
 use Rattle.table.specs.Rules.{keeps, tableKeeps}
-use Rattle.run.specs.declared.Last.{Last}
-use Rattle.run.specs.declared.Last.the-variants.{NoJob, Job}
+use Rattle.queues.specs.Sound.{lastSound, countsSound}
 use Rattle.run.specs.declared.State.{State}
-use Rattle.run.specs.State.{usedAt, elapsedAt, waitingAt, runsAt, taskWaits}
-use Rattle.run.specs.Sound.{isLast, soundServer, soundFront, soundTask, soundLast, soundCounts, soundState, sound}
+use Rattle.run.specs.State.{queuesOf, usedAt, elapsedAt, waitingAt, runsAt}
+use Rattle.queues.specs.Queues.{isLast}
+use Rattle.run.specs.Sound.{soundServer, soundTask, soundLast, soundCounts, soundState, sound}
 use Rattle.soundness.specs.Inner.{serverTests, taskTests, serversSound, tasksSound}
 
 module _ (t : Table) (s : State) where
@@ -26,21 +24,8 @@ module _ (t : Table) (s : State) where
   pub task-tests : (k : ℕ) →
       every (soundTask t s k) ≡ every
       (taskTests (taskAt t k) (s .mode) (waitingAt s k) (runsAt s k) (isLast (s .last) k))
-  unfolding soundTask soundFront taskTests
+  unfolding soundTask taskTests
   task-tests k = refl
-
-  pub last-none : (l : Last) → l ≡ NoJob → true ≡ soundLast t s l
-  unfolding soundLast
-  last-none l e = rw e
-
-  pub last-absent : (l : Last) (k : ℕ) → l ≡ Job k → t .ntasks ≤ k → false ≡ soundLast t s l
-  unfolding soundLast every
-  last-absent l k e h = rw (e, le-ltb k (t .ntasks) h)
-
-  pub last-there : (l : Last) (k : ℕ) → l ≡ Job k → k < t .ntasks →
-      every (true ∷ taskWaits s k ∷ leb 1 (runsAt s k) ∷ leb 1 (s .ticks .0) ∷ []) ≡ soundLast t s l
-  unfolding soundLast
-  last-there l k e h = rw (e, lt-ltb k (t .ntasks) h)
 
   pub table-breaks : tableKeeps t ≡ false → false ≡ sound (record { table = t; state = s })
   unfolding sound
@@ -48,10 +33,13 @@ module _ (t : Table) (s : State) where
 
   pub state-asked : tableKeeps t ≡ true →
       every
-      (serversSound t s (t .nservers) ∷ tasksSound t s (t .ntasks) ∷ soundLast t s (s .last) ∷ every (soundCounts t s)
+      (serversSound t s (t .nservers)
+      ∷ tasksSound t s (t .ntasks)
+      ∷ lastSound (t .ntasks) (queuesOf s) (s .ticks .0) (s .last)
+      ∷ every (countsSound (t .ntasks) (waitingAt s) (s .ticks .0) (s .accepted))
       ∷ [])
       ≡ sound (record { table = t; state = s })
-  unfolding sound soundState
+  unfolding sound soundState soundLast soundCounts
   state-asked e = rw e
 
 -- a table that keeps the rules has no more rows than its arrays hold

@@ -1,16 +1,17 @@
 -- Soundness by rows, as the code asks it: only contracts of inner functions cite this.
 -- `Rattle.run.specs.Sound` says it.
-use mathlib.Core.Bool.{Bool, not, _&&_, _||_}
+use mathlib.Core.Bool.{Bool, not, _&&_}
 use mathlib.Core.List.{List, [], _∷_}
 use Prim.Native.Nat.{ℕ}
-use lib.Dec.{leb, ltb, eqb}
-use Rattle.laws.specs.Choice.{if_then_else_, every}
+use lib.Dec.{leb, ltb}
+use Rattle.laws.specs.Choice.{every}
 use Rattle.laws.specs.Rows.{allBelow}
 use Rattle.table.specs.declared.Mode.{Mode}
 use Rattle.table.specs.declared.Server.{Server}
 use Rattle.table.specs.declared.Table.{Table}
 use Rattle.table.specs.declared.Task.{Task}
 use Rattle.table.specs.Rows.{inMode, largest, isLow, isD2}
+use Rattle.queues.specs.Sound.{queueSound}
 use Rattle.run.specs.declared.State.{State}
 use Rattle.run.specs.Sound.{soundServer, soundTask}
 
@@ -20,16 +21,9 @@ serverTests s used elapsed =
     leb elapsed (s .period .0) ∷ leb used elapsed ∷ leb used (largest (s .capacity) .0) ∷ []
 
 -- of a task's row, its waiting jobs, the front one's run count, and whether it is the last-run task
-abbrev pub frontTest : Task → Mode → ℕ → ℕ → Bool → Bool
-frontTest k m waiting runs last =
-    if ltb 0 waiting
-    then ltb runs (inMode (k .limit) m .0) || last && eqb runs (inMode (k .limit) m .0)
-    else eqb runs 0
-
 unfoldable pub taskTests : Task → Mode → ℕ → ℕ → Bool → List Bool
 taskTests k m waiting runs last =
-    leb waiting 16
-    ∷ frontTest k m waiting runs last
+    every (queueSound (inMode (k .limit) m .0) waiting runs last)
     ∷ not (isD2 m && (isLow (k .level) && ltb 0 waiting))
     ∷ []
 

@@ -2,34 +2,29 @@
 -- they stand. Rows that keep the rules are the rows of such lines, and the rows' own lines are
 -- those with the task times rounded up. Assumes nothing.
 use mathlib.Core.Path.{_≡_, refl, sym, ap, _∙_, subst}
-use mathlib.Core.Bool.{true, not, Bool, false}
+use mathlib.Core.Bool.{true, not}
 use mathlib.Core.List.{List, [], _∷_, _++_, map, append-assoc, append-nil}
 use Prim.Native.Nat.{ℕ, suc, _+_, _≤_, _<_}
 use native.Mathlib.Omega.{arith}
-use native.Mathlib.Nat.{add-zero}
-use lib.Dec.{ltb, leb}
+use lib.Dec.{ltb}
 use lib.ListN.{length, getD, length-append}
-use borrow.Author.Tests.{lt-ltb, leb-true, le-leb}
+use borrow.Author.Tests.{lt-ltb}
 use Rattle.laws.specs.Choice.{every, within, unless_say_else_}
 use Rattle.laws.specs.Rows.{allBelow}
 use Rattle.laws.specs.Search.{firstFailed}
 use Rattle.laws.proofs.Choice.{every-at, within-low, within-high, is-within}
 use Rattle.laws.proofs.Rows.{all-at, all-build}
 use Rattle.units.specs.declared.Micros.{Micros}
-use Rattle.decimal.specs.Lines.{lineFeed, split}
 use Rattle.table.specs.declared.Server.{Server}
 use Rattle.table.specs.declared.Task.{Task}
 use Rattle.table.specs.Rows.{Rows, noRows, noServer, noTask}
 use Rattle.table.specs.Rules.{tickKeeps, priorityKeeps, limitKeeps, serverKeeps, taskFault, taskStands, differ, keeps}
 use Rattle.table.proofs.Rules.{rows-there, stands-keeps}
 use Rattle.table.specs.declared.Standing.the-variants.{Kept, Broken}
-use Rattle.table.specs.declared.Pair.{Pair}
-use Rattle.table.specs.declared.Pair.the-variants.{Equal as EqualRows, Differ}
-use Rattle.table.specs.declared.Refusal.{Refusal}
+use Rattle.table.specs.declared.Pair.the-variants.{Differ}
 use Rattle.table.specs.declared.Refusal.the-variants.{Malformed as MalformedWhy, OutOfBounds, NotWhole}
 use Rattle.table.specs.Pairs.{equalServers, equalTasks}
 use Rattle.table.proofs.Pairs.{differ-pair, pair-differ}
-use Rattle.table.specs.declared.Standing.{Standing}
 use Rattle.text.specs.declared.Line.{Line}
 use Rattle.text.specs.declared.Line.the-variants.{OfTick, OfServer, OfTask, Malformed}
 use Rattle.text.specs.Standing.{isNil, anything, taskOf, placed, bounds, taskBounds, wholes, fault, tell_at_or_, standing, grown}
@@ -38,10 +33,12 @@ use Rattle.text.specs.Write.{serverBack, taskBack, serverLines, taskLine
 use Rattle.text.proofs.Lines.{Writable}
 use Rattle.text.proofs.Ticks.{server-there, task-there, rounded}
 use Rattle.text.proofs.Bounds.{within-tick}
-use Rattle.text.proofs.Standing.{not-nil, standing-keeps, keeps-standing, server-bounded, server-whole, task-bounded, Good, stepped, stands-first, tick-line, tick-writable, is-nil}
-use Rattle.text.specs.declared.Reading.the-variants.{Taken, Refused}
+use Rattle.text.proofs.Standing.{not-nil, standing-keeps, keeps-standing, server-bounded, server-whole, task-bounded, Good, stepped, stands-first, tick-line, tick-writable}
+use Rattle.text.specs.declared.Reading.the-variants.{Taken}
 use Rattle.text.specs.Line.{readLine}
-use Rattle.text.specs.Read.{ReadRows, taken, refused, pairSaid, compared, ended, lineSaid, readFrom, read}
+use Rattle.text.specs.TableText.{rowsGrown}
+use Rattle.text.specs.Read.{ReadRows, taken, pairSaid, compared, ended, tableText, read}
+use Rattle.text.proofs.TableText.{taken-not, unless-not, pair-taken, kept-ends, not-refused-kept}
 
 abbrev pub AllWritable : List Line → Type 0
 AllWritable [] = Unit {0}
@@ -81,7 +78,7 @@ pub record Through (a : Rows) (ls : List Line) : Type 0 where
   pub lines : linesOf (grownBy a ls) ≡ linesOf a ++ map (rounded (a .tick .0)) ls
 
 pub through : (n : ℕ) (a : Rows) (ls : List Line) → 1 < n → Good a → KeptFrom n a ls → Through a ls
-unfolding grownBy
+unfolding rowsGrown
 through n a [] h g k =
     record { good = g; same-tick = refl; writable = tt; rounded-writable = tt; lines = sym (append-nil (linesOf a)) }
 through n a (l ∷ ls) h g k =
@@ -107,7 +104,7 @@ pub record Told (ls : List Line) : Type 0 where
   pub lines : linesOf (grownBy noRows ls) ≡ map (rounded (grownBy noRows ls .tick .0)) ls
 
 told-tick : (t : Micros) (ls : List Line) → KeptFrom 1 noRows (OfTick t ∷ ls) → Told (OfTick t ∷ ls)
-unfolding grownBy grown linesOf rounded serverLines taskLines
+unfolding rowsGrown grown linesOf rounded serverLines taskLines
 told-tick t ls k =
     let c = standing-keeps 1 noRows (OfTick t) (k .0) in
     let ih = through 2 (grown noRows (OfTick t)) ls (omega arith) (tick-line t c) (k .1) in
@@ -119,7 +116,7 @@ told-tick t ls k =
     }
 
 pub told : (ls : List Line) → KeptFrom 1 noRows ls → 0 < length (grownBy noRows ls .tasks) → Told ls
-unfolding grownBy
+unfolding rowsGrown
 told [] k h = absurd (omega arith)
 told (l ∷ ls) k h =
     go (stands-first l (standing-keeps 1 noRows l (k .0)) .0) l (stands-first l (standing-keeps 1 noRows l (k .0)) .1) k
@@ -262,7 +259,7 @@ tasks-taken t ss ks (k ∷ more) p q l e n = (
 
 servers-grown : (t : Micros) (ss more : List Server) (rest : List Line) → 0 < t .0 →
     grownBy (with t ss []) (serverLines (t .0) more ++ rest) ≡ grownBy (with t (ss ++ more) []) rest
-unfolding serverLines grown grownBy
+unfolding serverLines grown rowsGrown
 servers-grown t ss [] rest p = rw (append-nil ss)
 servers-grown t ss (s ∷ more) rest p =
     ap (λ x. grownBy (with t (ss ++ (x ∷ [])) []) (serverLines (t .0) more ++ rest)) (server-there (t .0) p s) ∙
@@ -270,7 +267,7 @@ servers-grown t ss (s ∷ more) rest p =
 
 tasks-grown : (t : Micros) (ss : List Server) (ks more : List Task) → 0 < t .0 →
     grownBy (with t ss ks) (taskLines (t .0) more) ≡ with t ss (ks ++ more)
-unfolding taskLines grown grownBy
+unfolding taskLines grown rowsGrown
 tasks-grown t ss ks [] p = rw (append-nil ks)
 tasks-grown t ss ks (k ∷ more) p =
     ap (λ x. grownBy (with t ss (ks ++ (x ∷ []))) (taskLines (t .0) more)) (task-there (t .0) p k) ∙
@@ -294,31 +291,14 @@ lines-taken a k =
     )
 
 pub lines-grown : (a : Rows) → RowsKeep a → grownBy noRows (linesOf a) ≡ a
-unfolding linesOf grown grownBy
+unfolding linesOf grown rowsGrown
 lines-grown a k =
     let t = a .tick in
     servers-grown t [] (a .servers) (taskLines (t .0) (a .tasks)) (k .good .low) ∙
     tasks-grown t (a .servers) [] (a .tasks) (k .good .low)
 
--- no answer but one is Taken
-not-refused : {A : Type 0} (why : Refusal) (n field : ℕ) → Refused why n field ≡ Taken → A
-not-refused why n field e = let z : _≡_ {A = ℕ} 0 1 = cc in absurd (omega arith)
-
-unless-taken : (b : Bool) (why : Refusal) (n : ℕ) (r : ReadRows) → (unless b say refused why n 0 else r) .answer ≡ Taken →
-    (b ≡ true) × (r .answer ≡ Taken)
-unless-taken true why n r e = (refl, e)
-unless-taken false why n r e = not-refused why n 0 e
-
-pair-taken : (top : ℕ) (p : Pair) (r : ReadRows) → pairSaid top p r .answer ≡ Taken → (p ≡ Differ) × (r .answer ≡ Taken)
-pair-taken top (EqualRows i j) r e = let z : _≡_ {A = ℕ} 0 1 = cc in absurd (omega arith)
-pair-taken top Differ r e = (refl, e)
-
-line-taken : (n : ℕ) (j : Standing) (r : ReadRows) → lineSaid n j r .answer ≡ Taken → (j ≡ Kept) × (r .answer ≡ Taken)
-line-taken n Kept r e = (refl, e)
-line-taken n (Broken why field) r e = not-refused why n field e
-
 -- the end of the text
-some : {A : Type 0} (xs : List A) → not (isNil xs) ≡ true → 1 ≤ length xs
+pub some : {A : Type 0} (xs : List A) → not (isNil xs) ≡ true → 1 ≤ length xs
 some [] e = let z : _≡_ {A = ℕ} 0 1 = cc in absurd (omega arith)
 some (x ∷ xs) e = omega arith
 
@@ -330,82 +310,44 @@ record Ended (a : Rows) : Type 0 where
 ended-taken : (n : ℕ) (a : Rows) → ended n a .answer ≡ Taken → Ended a
 unfolding ended compared
 ended-taken n a e =
-    let p = unless-taken (not (isNil (a .tasks))) MalformedWhy n (compared a) e in
+    let p = unless-not noRows (not (isNil (a .tasks))) MalformedWhy n (compared a) (taken-not e) in
+    let s = ap (λ (x : ReadRows). x .answer) (sym (p .1)) ∙ e in
     let tasks = pairSaid (2 + length (a .servers)) (equalTasks (a .tasks)) (taken a) in
-    let q = pair-taken 2 (equalServers (a .servers)) tasks (p .1) in
-    let r = pair-taken (2 + length (a .servers)) (equalTasks (a .tasks)) (taken a) (q .1) in
+    let q = pair-taken noRows 2 (equalServers (a .servers)) tasks s in
+    let r = pair-taken noRows (2 + length (a .servers)) (equalTasks (a .tasks)) (taken a) (q .1) in
     record { task = some (a .tasks) (p .0); servers = q .0; tasks = r .0 }
 
 taken-ended : (n : ℕ) (a : Rows) → Ended a → ended n a ≡ taken a
 unfolding ended compared
 taken-ended n a e = rw (not-nil (a .tasks) (e .task), e .servers, e .tasks)
 
--- the lines
-pub from-line : (n : ℕ) (a : Rows) (l : List ℕ) (ms : List (List ℕ)) → 0 < length ms →
-    readFrom n a (l ∷ ms) ≡ lineSaid n (standing n a (readLine l)) (readFrom (n + 1) (grown a (readLine l)) ms)
-unfolding readFrom
-from-line n a l [] h = absurd (omega arith)
-from-line n a l (m ∷ ms) h = refl
-
-from-kept : (n : ℕ) (a : Rows) (ls : List (List ℕ)) → KeptFrom n a (map readLine ls) →
-    readFrom n a (ls ++ ([] ∷ [])) ≡ ended (n + length ls) (grownBy a (map readLine ls))
-unfolding readFrom grownBy
-from-kept n a [] k = rw (add-zero n)
-from-kept n a (l ∷ ls) k =
-    let e : n + 1 + length ls ≡ n + suc (length ls) = omega arith in
-    from-line n a l (ls ++ ([] ∷ [])) (omega (arith, length-append ls ([] ∷ []))) ∙
-    rw (k .0) (from-kept (n + 1) (grown a (readLine l)) ls (k .1) ∙ rw e)
-
-record Ran (n : ℕ) (a : Rows) (ps : List (List ℕ)) : Type 0 where
-  lines : List (List ℕ)
-  parts : ps ≡ lines ++ ([] ∷ [])
-  kept : KeptFrom n a (map readLine lines)
-
-from-taken : (n : ℕ) (a : Rows) (ps : List (List ℕ)) → readFrom n a ps .answer ≡ Taken → Ran n a ps
-unfolding readFrom
-from-taken n a [] e = not-refused MalformedWhy n 0 e
-from-taken n a (l ∷ []) e =
-    let p = unless-taken (isNil l) MalformedWhy n (ended n a) e in
-    record { lines = []; parts = rw (is-nil l (p .0)); kept = tt }
-from-taken n a (l ∷ (m ∷ ms)) e =
-    let j = line-taken n (standing n a (readLine l)) (readFrom (n + 1) (grown a (readLine l)) (m ∷ ms)) e in
-    let ih = from-taken (n + 1) (grown a (readLine l)) (m ∷ ms) (j .1) in
-    record { lines = l ∷ ih .lines; parts = ap (λ ps. l ∷ ps) (ih .parts); kept = (j .0, ih .kept) }
-
 -- the whole text
-read-short : (text : List ℕ) → read text .answer ≡ Taken →
-    (length text ≤ 16384) × (read text ≡ readFrom 1 noRows (split lineFeed text))
-unfolding read
-read-short text e =
-    let p = unless-taken (leb (length text) 16384) OutOfBounds 0 (readFrom 1 noRows (split lineFeed text)) e in
-    (leb-true (length text) 16384 (p .0), rw (p .0))
-
 pub allowed-taken : (text : List ℕ) (a : Rows) → Allowed text a → read text ≡ taken a
 unfolding read
 allowed-taken text a w =
-    rw (le-leb (length text) 16384 (w .short), w .closes)
-    (from-kept 1 noRows (w .lines) (w .kept) ∙ rw (w .rows)
+    kept-ends tableText text
+    (record { short = w .short; lines = w .lines; closes = w .closes; kept = w .kept })
+    ∙ rw (w .rows)
     (taken-ended (1 + length (w .lines)) a
     (record {
       task = w .task;
       servers = differ-pair (length (a .servers)) (λ i. getD (a .servers) i noServer .priority) (w .servers-differ);
       tasks = differ-pair (length (a .tasks)) (λ k. getD (a .tasks) k noTask .priority) (w .tasks-differ);
-    })))
+    }))
 
 pub taken-allowed : (text : List ℕ) → read text .answer ≡ Taken → Allowed text (read text .rows)
+unfolding read
 taken-allowed text e =
-    let s = read-short text e in
-    let r = from-taken 1 noRows (split lineFeed text) (ap (λ x. x .answer) (sym (s .1)) ∙ e) in
+    let r = not-refused-kept tableText text (taken-not e) in
     let b = grownBy noRows (map readLine (r .lines)) in
-    let f = from-kept 1 noRows (r .lines) (r .kept) in
-    let q : read text ≡ ended (1 + length (r .lines)) b = s .1 ∙ ap (readFrom 1 noRows) (r .parts) ∙ f in
-    let n = ended-taken (1 + length (r .lines)) b (ap (λ x. x .answer) (sym q) ∙ e) in
+    let q : read text ≡ ended (1 + length (r .lines)) b = kept-ends tableText text r in
+    let n = ended-taken (1 + length (r .lines)) b (ap (λ (x : ReadRows). x .answer) (sym q) ∙ e) in
     let z : read text ≡ taken b = q ∙ taken-ended (1 + length (r .lines)) b n in
-    subst (Allowed text) (ap (λ x. x .rows) (sym z))
+    subst (Allowed text) (ap (λ (x : ReadRows). x .rows) (sym z))
     (record {
-      short = s .0;
+      short = r .short;
       lines = r .lines;
-      closes = r .parts;
+      closes = r .closes;
       kept = r .kept;
       rows = refl;
       task = n .task;

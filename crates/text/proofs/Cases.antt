@@ -21,7 +21,7 @@ use Rattle.table.specs.Pairs.{laterEqual, firstPair}
 use Rattle.text.specs.Words.{tickWord, serverWord, taskWord, eventWord, timedWord, loWord, miWord, hiWord}
 use Rattle.text.specs.Line.{tickForm, serverForm, taskForm, fieldTests, formTests, lineBy, lineOf, readLine, fieldsOf, writeLine}
 use Rattle.text.specs.Standing.{placed, serverBounds, taskBounds, bounds, serverWhole, wholes, fault, standing, grown}
-use Rattle.text.specs.Read.{readingNumber, readingValues, compared, ended, readFrom, read}
+use Rattle.text.specs.Read.{readingNumber, readingValues, compared, ended, read}
 use Rattle.text.specs.Write.{serverLines, taskLines, linesOf, write, wrote, allTimesWhole, timesWhole}
 
 unfoldable computed : Unit {0}
@@ -30,7 +30,7 @@ unfolding
     tableKeeps keeps serverKeeps taskKeeps taskFault taskStands differ laterEqual firstPair tickWord serverWord
     taskWord eventWord timedWord loWord miWord hiWord tickForm serverForm taskForm fieldTests formTests lineBy lineOf readLine
     fieldsOf writeLine placed serverBounds taskBounds bounds serverWhole wholes fault standing grown compared
-    ended readFrom read serverLines taskLines linesOf write wrote allTimesWhole
+    ended read serverLines taskLines linesOf write wrote allTimesWhole
 computed = tt
 
 -- the number, and what comes back with it: line and field, or both lines

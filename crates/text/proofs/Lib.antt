@@ -4,6 +4,6 @@ pub mod Ticks
 pub mod Bounds
 pub mod Refused
 pub mod Standing
+pub mod TableText
 pub mod Allowed
 pub mod RoundTrip
-pub mod ReadFrom

@@ -42,12 +42,12 @@ use Rattle.text.proofs.Ticks.{whole-div, server-back, rounded}
 use Rattle.text.proofs.Bounds.{tick-within, server-within, within-server, task-within}
 
 -- the tests of a line in their order: kept is kept of each
-unless-kept : (b : Bool) (why : Refusal) (field : ℕ) (r : Standing) → (unless b say Broken why field else r) ≡ Kept →
+pub unless-kept : (b : Bool) (why : Refusal) (field : ℕ) (r : Standing) → (unless b say Broken why field else r) ≡ Kept →
     (b ≡ true) × (r ≡ Kept)
 unless-kept true why field r e = (refl, e)
 unless-kept false why field r e = let c : _≡_ {A = ℕ} 0 1 = cc in absurd (omega arith)
 
-tell-kept : (x : Found) (why : Refusal) (r : Standing) → (tell why at x or r) ≡ Kept → (x ≡ Nothing) × (r ≡ Kept)
+pub tell-kept : (x : Found) (why : Refusal) (r : Standing) → (tell why at x or r) ≡ Kept → (x ≡ Nothing) × (r ≡ Kept)
 tell-kept (At field) why r e = let c : _≡_ {A = ℕ} 0 1 = cc in absurd (omega arith)
 tell-kept Nothing why r e = (refl, e)
 
@@ -165,7 +165,7 @@ pub record Good (a : Rows) : Type 0 where
   pub task : (k : ℕ) → k < length (a .tasks) → taskStands (a .servers) (getD (a .tasks) k noTask) ≡ true
 
 -- one row more
-each-more : {A : Type 0} (P : A → Type 0) (xs : List A) (x d : A) → ((i : ℕ) → i < length xs → P (getD xs i d)) → P x →
+pub each-more : {A : Type 0} (P : A → Type 0) (xs : List A) (x d : A) → ((i : ℕ) → i < length xs → P (getD xs i d)) → P x →
     (i : ℕ) → i < length (xs ++ (x ∷ [])) → P (getD (xs ++ (x ∷ [])) i d)
 each-more P xs x d f p i h =
     elim (le-or-lt (length xs) i) [ inl l ↦ last l | inr l ↦ rw (List·getD-append xs (x ∷ []) d i l) (f i l) ]

@@ -3,25 +3,23 @@
 use mathlib.Core.Path.{_≡_}
 use mathlib.Core.Bool.{true}
 use mathlib.Core.List.{List, [], _∷_, _++_, map}
-use Prim.Native.Nat.{ℕ, _+_, _≤_}
+use Prim.Native.Nat.{ℕ, _≤_}
 use lib.ListN.{length, getD}
 use Rattle.decimal.specs.Lines.{lineFeed, split}
 use Rattle.table.specs.Rows.{Rows, noRows, noServer, noTask}
 use Rattle.table.specs.Rules.{differ}
 use Rattle.text.specs.declared.Line.{Line}
-use Rattle.table.specs.declared.Standing.the-variants.{Kept}
 use Rattle.text.specs.Line.{readLine}
-use Rattle.text.specs.Standing.{standing, grown}
+use Rattle.text.specs.TableText.{LinesKeep, rowsGrown}
+use Rattle.text.specs.Read.{tableText}
 
 -- each line keeps the rules where it stands: the first as line n, below the rows a
 abbrev pub KeptFrom : ℕ → Rows → List Line → Type 0
-KeptFrom n a [] = Unit {0}
-KeptFrom n a (l ∷ ls) = (standing n a l ≡ Kept) × KeptFrom (n + 1) (grown a l) ls
+KeptFrom = LinesKeep tableText
 
 -- the rows a with those of the lines
-unfoldable pub grownBy : Rows → List Line → Rows
-grownBy a [] = a
-grownBy a (l ∷ ls) = grownBy (grown a l) ls
+abbrev pub grownBy : Rows → List Line → Rows
+grownBy = rowsGrown tableText
 
 -- "The text is at most 16,384 bytes"; it is lines, "each closed by a line feed, the last too", so
 -- that nothing stands after the last line feed; each line keeps the rules where it stands; there is

@@ -125,14 +125,21 @@ malformedAt (OfServer s) = Nothing
 malformedAt (OfTask k) = Nothing
 malformedAt (Malformed word field) = At field
 
--- what a line says where no field is wrong, and the field that is
-abbrev pub saidUnless : Found → Line → Line
-saidUnless (At field) said = Malformed (wordOf said) field
-saidUnless Nothing said = said
+-- what a line of any kind of table says where no field is wrong, and the field that is
+abbrev pub unlessWrong : {L : Type 0} → Found → (ℕ → L) → L → L
+unlessWrong (At field) malformed said = malformed field
+unlessWrong Nothing malformed said = said
 
 -- 02, No. 2: "leftmost field concerned"
+abbrev pub formedOr : {L : Type 0} → (ℕ → L) → Form → List (List ℕ) → L → L
+formedOr malformed form fs said = unlessWrong (firstFailed (formTests form fs)) malformed said
+
+-- of document 01's lines
+abbrev pub saidUnless : Found → Line → Line
+saidUnless wrong said = unlessWrong wrong (Malformed (wordOf said)) said
+
 abbrev pub formed : Form → List (List ℕ) → Line → Line
-formed form fs said = saidUnless (firstFailed (formTests form fs)) said
+formed form fs said = formedOr (Malformed (wordOf said)) form fs said
 
 -- a line of no known word: "a wrong leading word .. is told first, as 0"
 abbrev pub noLine : Line

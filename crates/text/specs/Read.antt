@@ -5,24 +5,24 @@
 use mathlib.Core.Bool.{not}
 use mathlib.Core.List.{List, [], _∷_}
 use Prim.Native.Nat.{ℕ, _+_}
-use lib.Dec.{leb}
 use lib.ListN.{length}
 use Rattle.laws.specs.Choice.{unless_say_else_}
-use Rattle.decimal.specs.Lines.{lineFeed, split}
 use Rattle.table.specs.declared.Pair.{Pair}
-use Rattle.table.specs.declared.Pair.the-variants.{Equal as EqualRows, Differ}
 use Rattle.table.specs.declared.Refusal.{Refusal}
-use Rattle.table.specs.declared.Refusal.the-variants.{Malformed, OutOfBounds, EqualPriorities}
+use Rattle.table.specs.declared.Refusal.the-variants.{Malformed, EqualPriorities}
 use Rattle.table.specs.Refusals.{numberOf}
 use Rattle.table.specs.Pairs.{equalServers, equalTasks}
 use Rattle.table.specs.Rows.{Rows, noRows, tableOf}
 use Rattle.table.specs.declared.Standing.{Standing}
-use Rattle.table.specs.declared.Standing.the-variants.{Kept, Broken}
 use Rattle.text.specs.declared.Reading.{Reading}
 use Rattle.text.specs.declared.Reading.the-variants.{Taken, Refused, Equal}
 use Rattle.text.specs.declared.Read.{Read}
+use Rattle.text.specs.declared.Line.{Line}
 use Rattle.text.specs.Line.{readLine}
 use Rattle.text.specs.Standing.{isNil, standing, grown}
+use Rattle.text.specs.TableText.{ReadOf, TableText, refusedBeside, equalBeside, pairTold, lineTold}
+use Rattle.text.specs.TableText.{readLines, readText}
+pub use Rattle.text.specs.TableText.{taken}
 
 -- The paper's number of each answer, 0 where the text is taken, and what comes back with it: the
 -- line and the field, "both lines".
@@ -36,25 +36,19 @@ readingValues Taken = []
 readingValues (Refused why line field) = line ∷ field ∷ []
 readingValues (Equal first second) = first ∷ second ∷ []
 
--- The answer, and the rows of a text that is taken.
-pub record ReadRows : Type 0 where
-  pub answer : Reading
-  pub rows : Rows
-
-abbrev pub taken : Rows → ReadRows
-taken a = record { answer = Taken; rows = a }
+-- The answer, and the rows of a text that is taken; beside a refusal stand no rows.
+abbrev pub ReadRows : Type 0
+ReadRows = ReadOf Rows
 
 abbrev pub refused : Refusal → ℕ → ℕ → ReadRows
-refused why line field = record { answer = Refused why line field; rows = noRows }
+refused = refusedBeside noRows
 
 abbrev pub equal : ℕ → ℕ → ReadRows
-equal first second = record { answer = Equal first second; rows = noRows }
+equal = equalBeside noRows
 
--- 5, "equal priorities", "both lines". "Rows count from 0 within their kind, lines from 1": row 0
--- stands on line `top`. Where no two are equal, r is said.
+-- 5, "equal priorities", "both lines": row 0 stands on line `top`
 abbrev pub pairSaid : ℕ → Pair → ReadRows → ReadRows
-pairSaid top (EqualRows i j) r = equal (top + i) (top + j)
-pairSaid top Differ r = r
+pairSaid = pairTold noRows
 
 -- Servers stand below the `tick` line, tasks below the servers. "then the same for tasks"
 unfoldable pub compared : Rows → ReadRows
@@ -67,24 +61,16 @@ compared a =
 unfoldable pub ended : ℕ → Rows → ReadRows
 ended n a = unless not (isNil (a .tasks)) say refused Malformed n 0 else compared a
 
--- The first line that breaks a rule is told. Where line n keeps them, r is said.
+-- Document 01's table, as its text is read.
+abbrev pub tableText : TableText Rows Line
+tableText = record { none = noRows; says = readLine; stands = standing; grows = grown; ends = ended }
+
 abbrev pub lineSaid : ℕ → Standing → ReadRows → ReadRows
-lineSaid n Kept r = r
-lineSaid n (Broken why field) r = refused why n field
+lineSaid = lineTold noRows
 
--- From line n on, a being the rows above it. "an unclosed last line 1 at itself": the last part is
--- what stands after the last line feed. (There is always a part.)
-unfoldable pub readFrom : ℕ → Rows → List (List ℕ) → ReadRows
-readFrom n a [] = refused Malformed n 0
-readFrom n a (l ∷ []) = unless isNil l say refused Malformed n 0 else ended n a
-readFrom n a (l ∷ (m ∷ ms)) =
-    lineSaid n (standing n a (readLine l)) (readFrom (n + 1) (grown a (readLine l)) (m ∷ ms))
-
--- "length first": "The text is at most 16,384 bytes"; "text too long (line 0)"
 unfoldable pub read : List ℕ → ReadRows
-read text =
-    unless leb (length text) 16384 say refused OutOfBounds 0 0
-    else readFrom 1 noRows (split lineFeed text)
+unfolding readText readLines
+read = readText tableText
 
 -- As the reader hands it back: the table beside a refusal is noTable of crate table.
 unfoldable pub shown : ReadRows → Read

@@ -6,7 +6,7 @@ use native.Mathlib.Omega.{arith}
 use lib.ListN.{getD, length-set}
 use lib.Seq.{sets}
 use borrow.Author.Needs.{needs}
-use Rattle.run.specs.Values.{lineValues}
+use Rattle.events.specs.Values.{lineValues}
 use Rattle.lines.specs.EventLine.{eventLine}
 use Rattle.lines.specs.HeldLine.{lineIn}
 use Rattle.lines.proofs.Cutting.{stored}

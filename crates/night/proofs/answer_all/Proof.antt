@@ -5,13 +5,13 @@ use Prim.Native.Nat.{ℕ}
 use native.Mathlib.Omega.{arith}
 use lib.ListN.{length, length-replicate}
 use borrow.Author.Needs.{needs}
-use Rattle.night.specs.Pieces.{Ready}
+use Rattle.night.specs.Pieces.{NightReady}
 use Rattle.night.proofs.answer_all.Statement.{statement}
 use Rattle.night.proofs.answer_all.Tie as tie
 
 abbrev Inv-loop : tie.InvT-loop
 Inv-loop fd night₀ piece₀ room₀ turns₀ night piece room turns =
-    Ready night × ((length piece ≡ 4096) × (length room ≡ 573440))
+    NightReady night × ((length piece ≡ 4096) × (length room ≡ 573440))
 
 abbrev μ-loop : tie.MeasureT-loop
 μ-loop fd night₀ piece₀ room₀ turns₀ night piece room turns = turns

@@ -1,17 +1,26 @@
-use mathlib.Core.Path.{refl, sym, _∙_}
-use mathlib.Core.List.{_++_}
+-- `night::answer_piece` meets its contract: batch by batch, the bytes before stand answered (crate
+-- lines, proofs/Pieces.antt). Assumes nothing.
+use mathlib.Core.Path.{_≡_, refl, sym, ap, _∙_}
+use mathlib.Core.Bool.{true}
+use mathlib.Core.List.{List, _++_}
 use Prim.Native.Nat.{_+_, _*_, _-_, _≤_, _<_}
 use lib.ListN.{length, take, drop, length-map}
 use native.Mathlib.Omega.{arith}
+use Rattle.events.specs.declared.EventLine.{EventLine}
+use Rattle.run.specs.Sound.{sound}
+use Rattle.run.specs.Events.{theBox}
+use Rattle.run.specs.Many.{afterLines}
 use Rattle.run.proofs.Shape.{RunShaped}
-use Rattle.night.proofs.Pieces.{Going, going-start, going-sound, going-next, going-done}
+use Rattle.run.proofs.ManyLines.{lines-keep}
+use Rattle.lines.proofs.Pieces.{Going, going-start, going-ready, going-next, going-done}
+use Rattle.serving.specs.Buffer.{serviceOf}
 use borrow.Author.Needs.{needs}
 use Rattle.night.proofs.answer_piece.Statement.{statement}
 use Rattle.night.proofs.answer_piece.Tie as tie
 
 abbrev Inv-loop : tie.InvT-loop
 Inv-loop bytes room₀ run₀ held₀ at₀ put₀ room run held at put =
-    Going run₀ held₀ bytes at put room run held × (length bytes ≤ 4096)
+    Going theBox run₀ held₀ bytes (length room₀) at put room run held × (length bytes ≤ 4096)
 
 abbrev μ-loop : tie.MeasureT-loop
 μ-loop bytes room₀ run₀ held₀ at₀ put₀ room run held at put = length bytes - at
@@ -34,6 +43,10 @@ shaped c =
           };
     }
 
+-- so it stays sound over lines
+keeps : (c : tie.Start Inv-loop μ-loop) (ls : List EventLine) → sound (afterLines (c .args .n .run) ls) ≡ true
+keeps c ls = lines-keep (c .args .n .run) ls (shaped c) (c .pre .0 .sound) .1
+
 -- after a batch
 served : (c : tie.After-serve Inv-loop μ-loop) →
     let l = c .before .before .before .before .before .loop in
@@ -41,7 +54,7 @@ served : (c : tie.After-serve Inv-loop μ-loop) →
     let x = c .serve .result in
     let many = l .put + c .before .before .before .smaller-of .result * 140 - l .put in
     (0 < x .eaten) ×
-    Going (s .args .n .run) (s .args .n .held) (s .args .bytes .now) (l .at + x .eaten)
+    Going theBox (s .args .n .run) (s .args .n .held) (s .args .bytes .now) (length (s .args .room .now)) (l .at + x .eaten)
     (l .put + x .put)
     (take (l .put) (l .room) ++ (c .serve .last .1 .1 .1 .0 ++ drop many (drop (l .put) (l .room))))
     (x .run) (x .held)
@@ -50,19 +63,19 @@ served c =
     let s = c .before .before .before .before .before .before .before .before .before .before in
     let n = s .args .n in
     let k = c .before .before .before .smaller-of in
-    going-next (n .run) (n .held) (s .args .bytes .now) (shaped s) (s .pre .0 .sound) (l .at)
+    going-next theBox (n .run) (n .held) (s .args .bytes .now) (keeps s) (length (s .args .room .now)) (l .at)
     (l .put) (l .room) (l .run)
-    (l .held) (l .inv .0) (c .before .before .before .before .loop-test .taken) (l .inv .1)
+    (l .held) (l .inv .0) (c .before .before .before .before .loop-test .taken)
     (k .result) (k .ensures) (l .put + k .result * 140) refl
-    (c .serve .result) (c .serve .last .1 .1 .1 .0) (c .serve .kept .1 .1 .1 .0) (c .serve .ensures)
+    (serviceOf (record { served = c .serve .result; room = c .serve .last .1 .1 .1 .0 })) (c .serve .kept .1 .1 .1 .0)
+    (ap serviceOf (c .serve .ensures))
 
 loop-holds : tie.Need-loop-holds Inv-loop μ-loop
 loop-holds c =
     let s = c .before .before .before .before in
     let n = s .args .n in (
-      going-start (n .run) (n .held) (s .args .bytes .now) (shaped s) (s .pre .0 .sound)
-          (s .args .room .now)
-          (s .pre .1 .long) (s .pre .0 .held),
+      going-start theBox (n .run) (n .held) (s .args .bytes .now) (keeps s) (s .args .room .now)
+          (omega (arith, s .pre .1 .long, s .pre .1 .few)) (s .pre .0 .held),
       s .pre .1 .few,
     )
 
@@ -134,16 +147,11 @@ returns c =
     let s = c .before .before .before .before .before .before in
     let n = s .args .n in
     let l = c .before .loop in (
-      going-done (n .run) (n .held) (s .args .bytes .now) (shaped s) (s .pre .0 .sound) (l .at)
+      going-done theBox (n .run) (n .held) (s .args .bytes .now) (keeps s) (length (s .args .room .now)) (l .at)
           (l .put) (l .room)
           (l .run) (l .held) (l .inv .0) (c .loop-test .left),
-      record {
-        sound =
-            going-sound (n .run) (n .held) (s .args .bytes .now) (shaped s) (s .pre .0 .sound)
-            (l .at) (l .put) (l .room)
-            (l .run) (l .held) (l .inv .0);
-        held = l .inv .0 .held;
-      },
+      going-ready theBox (n .run) (n .held) (s .args .bytes .now) (keeps s) (length (s .args .room .now)) (l .at) (l .put) (l .room)
+          (l .run) (l .held) (l .inv .0),
     )
 
 pub answer-piece-spec : {M : Type 1} → statement M

@@ -2,8 +2,9 @@
 use mathlib.Core.Path.{_∙_}
 use native.Mathlib.Omega.{arith}
 use borrow.Author.Needs.{needs}
-use Rattle.lines.specs.Print.{longestAnswer}
-use Rattle.night.proofs.Pieces.{turn-on, turn-end, turn-failed}
+use Rattle.run.specs.Events.{theBox}
+use Rattle.lines.specs.HeldLine.{lineIn}
+use Rattle.files.proofs.Turns.{last-put, turn-on, turn-end, turn-failed}
 use Rattle.night.proofs.next.Statement.{statement}
 use Rattle.night.proofs.next.Tie as tie
 
@@ -17,10 +18,7 @@ enum-told-2 : tie.Need-enum-told-2
 enum-told-2 c = search needs
 
 answer-last-requires : tie.Need-answer-last-requires
-unfolding longestAnswer
-answer-last-requires c κs =
-    let p = c .before .before .before .before .before .before .pre in
-    (p .0 .held, omega (arith, p .1 .long))
+answer-last-requires c κs = search needs
 
 enum-told-3 : tie.Need-enum-told-3
 enum-told-3 c = search needs
@@ -32,7 +30,7 @@ returns : tie.Need-returns
 returns c =
     let s = c .before .before .before .before .before .before .before .before .args in
     let e = c .before .before .answer-piece .ensures in (
-      e .0 ∙ turn-on (s .n .run) (s .n .held) (s .how) (s .bytes .now)
+      e .0 ∙ turn-on theBox (s .n .run) (s .n .held) (s .how) (s .bytes .now)
           (c .before .before .before .before .enum-told .given .1),
       e .1,
     )
@@ -45,9 +43,10 @@ returns-2 c =
     let e = c .before .before .before .before .before .before in
     let s = e .before .before .before .before .before in
     let n = s .args .n in (
-      turn-end (n .run) (n .held) (s .args .how) (s .args .bytes .now) _
+      turn-end theBox (n .run) (n .held) (s .args .how) (s .args .bytes .now) _
           (c .before .before .before .before .before .before .before .enum-told2 .given .1)
-          (c .before .before .before .before .answer-last .ensures),
+          (last-put (lineIn (n .held)) (s .args .room .now) _ _ (omega (arith, s .pre .1 .long))
+          (c .before .before .before .before .answer-last .ensures)),
       record { sound = s .pre .0 .sound; held = s .pre .0 .held },
     )
 
@@ -55,7 +54,7 @@ returns-3 : tie.Need-returns-3
 returns-3 c =
     let s = c .before .before .before .before .before .before in
     let n = s .args .n in (
-      turn-failed (n .run) (n .held) (s .args .how) (s .args .bytes .now)
+      turn-failed theBox (n .run) (n .held) (s .args .how) (s .args .bytes .now)
           (c .before .before .enum-told3 .given .1),
       record { sound = s .pre .0 .sound; held = s .pre .0 .held },
     )

@@ -1,7 +1,7 @@
 -- `printer::store_outcome` meets its contract: the first of the nine numbers decides what they
 -- tell. Assumes nothing.
 use native.Mathlib.Omega.{arith}
-use Rattle.run.specs.Values.{toldSaid}
+use Rattle.events.specs.Values.{toldSaid}
 use Rattle.laws.proofs.Choice.{others}
 use Rattle.printer.proofs.Inner.{at-most, then}
 use borrow.Author.Needs.{needs}

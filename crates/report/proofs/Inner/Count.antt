@@ -18,21 +18,22 @@ use Rattle.laws.specs.Choice.{if_then_else_, larger, oneIf}
 use Rattle.laws.proofs.Choice.{clash, if-ind}
 use Rattle.laws.proofs.Rows.{sum-part}
 use Rattle.table.specs.declared.Table.{Table}
-use Rattle.run.specs.declared.Turn.{Turn}
-use Rattle.run.specs.declared.Turn.the-variants.{Run as Ran, Empty, Idle}
-use Rattle.run.specs.declared.Left.{Left}
-use Rattle.run.specs.declared.Left.the-variants.{Nobody, Done, Cut}
-use Rattle.run.specs.declared.TickAnswer.{TickAnswer}
-use Rattle.run.specs.declared.Told.the-variants.{Ticked}
+use Rattle.events.specs.declared.Turn.{Turn}
+use Rattle.events.specs.declared.Turn.the-variants.{Run as Ran, Empty, Idle}
+use Rattle.events.specs.declared.Left.{Left}
+use Rattle.events.specs.declared.Left.the-variants.{Nobody, Done, Cut}
+use Rattle.events.specs.declared.TickAnswer.{TickAnswer}
+use Rattle.events.specs.declared.Told.the-variants.{Ticked}
 use Rattle.run.specs.State.{waits}
-use Rattle.run.specs.Answers.{one, charged, finishedBy, cutBy}
+use Rattle.events.specs.Answers.{one, charged, finishedBy, cutBy}
 use Rattle.table.specs.Rows.{modeValue}
 use Rattle.table.proofs.Rows.{mode-below}
-use Rattle.run.specs.Values.{turnValues, leftValues, toldValues}
+use Rattle.events.specs.Values.{turnValues, leftValues, toldValues}
 use Rattle.run.specs.Found.{TakenTick, foundValues, allFound, allTold}
-use Rattle.run.proofs.Steps.{set-at, set-past, one-here, one-past, same-or-not}
-use Rattle.run.proofs.Tick.{charged-le}
-use Rattle.run.proofs.Values.{told-length}
+use Rattle.queues.proofs.Queues.{set-at, set-past}
+use Rattle.events.proofs.Answers.{one-here, one-past, same-or-not}
+use Rattle.events.proofs.Answers.{charged-le}
+use Rattle.events.proofs.Values.{told-length}
 use Rattle.run.proofs.Found.{found-length, found-server, found-task}
 use Rattle.morning.specs.Numbers.{emptyTurn, passedOver, inThisMode}
 use Rattle.morning.specs.Inner.{overTicks, rowTo, ServersCounted, TasksCounted, ModesCounted, Counted}

@@ -8,8 +8,8 @@ use lib.Dec.{eqb}
 use lib.ListN.{length, getD, set, take}
 use Rattle.laws.specs.Choice.{if_then_else_, larger, oneIf}
 use Rattle.table.specs.declared.Table.{Table}
-use Rattle.run.specs.declared.Told.the-variants.{Ticked}
-use Rattle.run.specs.Values.{toldValues}
+use Rattle.events.specs.declared.Told.the-variants.{Ticked}
+use Rattle.events.specs.Values.{toldValues}
 use Rattle.run.specs.Found.{TakenTick, foundValues, allFound, allTold}
 use Rattle.morning.specs.Inner.{Counted, TickFits, AllFit}
 

@@ -13,29 +13,26 @@ use lib.ListN.{length, getD, set, take, drop, replicate, getD-replicate, length-
 use lib.Seq.{getD-set-same, getD-set-other, getD-take, length-take-le, ext-getD}
 use borrow.Author.Tests.{lt-ltb, ltb-true, ltb-false, eq-eqb, ne-eqb}
 use Rattle.laws.specs.declared.Found.the-variants.{At}
-use Rattle.laws.specs.Rows.{anyBelow, highest, anew}
+use Rattle.laws.specs.Rows.{anyBelow, highest, anew, foundBy}
 use Rattle.laws.proofs.Anew.{length-anew, anew-at}
 use Rattle.laws.proofs.Choice.{and-left, and-right, and-true}
 use Rattle.laws.proofs.Rows.{any-at, none-build}
-use Rattle.laws.proofs.Highest.{Picked, picked-skip, picked-new, picked-take, picked-keep, picked-is, highest-at, highest-none}
+use Rattle.laws.proofs.Highest.{Top, top-none, top-skip, top-take, top-keep, top-is, found-there, highest-at, highest-none}
 use Rattle.table.specs.declared.Mode.{Mode}
 use Rattle.table.specs.declared.Mode.the-variants.{N, D1, D2}
 use Rattle.table.specs.declared.Table.{Table}
 use Rattle.table.specs.Rows.{taskAt, priorityAt, taskPriorityAt}
 use Rattle.table.proofs.Rules.{TableRules}
 use Rattle.run.specs.declared.State.{State}
-use Rattle.run.specs.declared.Turn.the-variants.{Idle}
+use Rattle.events.specs.declared.Turn.the-variants.{Idle}
 use Rattle.run.specs.Found.{topPriority, priorityFound}
 use Rattle.run.specs.State.{usedAt, waitingAt, owner, waitsFor, waits}
-use Rattle.run.specs.Tick.{able, highestAble, highestTask, turnOf, choose}
-use Rattle.run.proofs.Steps.{same-or-not}
+use Rattle.queues.specs.Queues.{turnOf}
+use Rattle.run.specs.Tick.{able, highestAble, highestTask, choose}
+use Rattle.events.proofs.Answers.{same-or-not}
 use Rattle.scheduler.specs.Inner.Columns.{ServersOn}
-use Rattle.scheduler.specs.Inner.Choose.{capacityColumn, foundBy, withTops}
+use Rattle.scheduler.specs.Inner.Choose.{capacityColumn, withTops}
 use Rattle.scheduler.proofs.Inner.Columns.{timed-on, capacity-on}
-
-pub found-there : (height row : ℕ) → 0 < height → foundBy height row ≡ At row
-found-there zero row h = absurd (omega arith)
-found-there (suc height) row h = refl
 
 -- what is found has the servers' places; and it is known by the numbers in them
 pub places-there : (f : List ℕ) → take 32 f ≡ replicate 32 0 → 32 ≤ length f
@@ -54,44 +51,7 @@ first-places f f₀ g n e h =
     getD-take 32 f i 0 m ∙ h i m ∙ sym (anew-at 32 (λ i x. g i) (replicate 32 0) i 0 m m)))
     e
 
-pub record Top (n : ℕ) (marked : ℕ → Bool) (priority : ℕ → ℕ) (height row : ℕ) : Type 0 where
-  pub picked : Picked n marked priority (foundBy height row)
-  pub level : 0 < height → height ≡ priority row
-
 module _ (marked : ℕ → Bool) (priority : ℕ → ℕ) where
-  pub top-none : (row : ℕ) → Top 0 marked priority 0 row
-  top-none row = record { picked = λ j h. absurd (omega arith); level = λ h. absurd (omega arith) }
-
-  pub top-skip : (n height row : ℕ) → Top n marked priority height row → marked n ≡ false →
-      Top (n + 1) marked priority height row
-  top-skip n height row p e =
-      record { picked = picked-skip marked priority n (foundBy height row) (p .picked) e; level = p .level }
-
-  pub top-take : (n height row : ℕ) → Top n marked priority height row → marked n ≡ true → height < priority n →
-      Top (n + 1) marked priority (priority n) n
-  top-take n height row p e l =
-      record
-      { picked = rw (found-there (priority n) n (omega arith)) (go height (p .picked) (p .level) l); level = λ h. refl }
-    where
-      go : (height : ℕ) → Picked n marked priority (foundBy height row) → (0 < height → height ≡ priority row) →
-          height < priority n →
-          Picked (n + 1) marked priority (At n)
-      go zero q v h = picked-new marked priority n q e
-      go (suc height) q v h = picked-take marked priority n row q e (omega (arith, v (omega arith)))
-
-  pub top-keep : (n height row : ℕ) → Top n marked priority height row → priority n ≤ height → 1 ≤ priority n →
-      Top (n + 1) marked priority height row
-  top-keep n height row p l g = record { picked = go height (p .picked) (p .level) l; level = p .level }
-    where
-      go : (height : ℕ) → Picked n marked priority (foundBy height row) → (0 < height → height ≡ priority row) →
-          priority n ≤ height →
-          Picked (n + 1) marked priority (foundBy height row)
-      go zero q v h = absurd (omega arith)
-      go (suc height) q v h = picked-keep marked priority n row q (omega (arith, v (omega arith)))
-
-  pub top-is : (n height row : ℕ) → Top n marked priority height row → foundBy height row ≡ highest n marked priority
-  top-is n height row p = picked-is marked priority n (foundBy height row) (p .picked)
-
   -- something is found exactly if some row is marked
   found-some : (n height row : ℕ) → foundBy height row ≡ highest n marked priority → ltb 0 height ≡ anyBelow n marked
   found-some n zero row e = sym (none-build marked n (highest-none marked priority n (sym e)))

@@ -22,7 +22,7 @@ use Rattle.table.specs.declared.Table.{Table}
 use Rattle.table.specs.Rows.{serverAt, taskAt, capacityAt, isTimed, isLow}
 use Rattle.run.specs.State.{owner}
 use Rattle.run.specs.Tick.{height}
-use Rattle.run.proofs.Steps.{same-or-not}
+use Rattle.events.proofs.Answers.{same-or-not}
 use Rattle.scheduler.specs.Inner.Columns.{kindNumber, levelIn, written, OnSheet, ServersOn, TasksOn}
 use Rattle.scheduler.specs.Inner.Choose.{ownerColumn, capacityColumn}
 

@@ -17,28 +17,30 @@ use Rattle.table.specs.Rows.{noServer, noTask, periodAt, taskAt, isLow, isD2}
 use Rattle.table.specs.Rules.{tableKeeps}
 use Rattle.table.specs.Inner.{Sized}
 use Rattle.table.proofs.Rules.{TableRules, table-rules}
-use Rattle.run.specs.declared.Answer.the-variants.{Released, Ticked, No}
-use Rattle.run.specs.declared.Event.{Event}
-use Rattle.run.specs.declared.Event.the-variants.{Release, Tick}
-use Rattle.run.specs.declared.Left.{Left}
+use Rattle.events.specs.declared.Answer.the-variants.{Released, Ticked, No}
+use Rattle.events.specs.declared.Event.{Event}
+use Rattle.events.specs.declared.Event.the-variants.{Release, Tick}
+use Rattle.events.specs.declared.Left.{Left}
 use Rattle.run.specs.declared.Run.{Run}
-use Rattle.run.specs.declared.Starting.the-variants.{Started, Refused}
+use Rattle.events.specs.declared.Starting.the-variants.{Started, Refused}
 use Rattle.run.specs.declared.State.{State}
-use Rattle.run.specs.declared.TickAnswer.{TickAnswer}
-use Rattle.run.specs.declared.Turn.{Turn}
-use Rattle.run.specs.declared.Turn.the-variants.{Run as Ran, Empty, Idle}
+use Rattle.events.specs.declared.TickAnswer.{TickAnswer}
+use Rattle.events.specs.declared.Turn.{Turn}
+use Rattle.events.specs.declared.Turn.the-variants.{Run as Ran, Empty, Idle}
 use Rattle.laws.specs.Rows.{sumBelow}
-use Rattle.run.specs.Answers.{charged}
+use Rattle.events.specs.Answers.{charged}
 use Rattle.run.specs.State.{usedAt, elapsedAt, waitingAt}
 use Rattle.run.specs.Sound.{sound}
 use Rattle.run.specs.Events.{eventOf}
 use Rattle.run.specs.Found.{takenBy, topPriority, foundValues}
 use Rattle.run.specs.Release.{refused, freshRun, startOf, withJob, releaseOf}
-use Rattle.run.specs.Tick.{settle, choose, advance, tickTaken, ranJob, tickOf}
+use Rattle.queues.specs.Queues.{ranJob}
+use Rattle.run.specs.Tick.{settle, choose, advance, tickTaken, tickOf}
 use Rattle.run.proofs.Shape.{Shaped}
 use Rattle.run.proofs.Sound.{StateSound, sound-table, sound-state}
 use Rattle.run.proofs.Steps.{settled-row}
-use Rattle.run.proofs.Tick.{one-same, charged-able, able-room, ran-front, elapsed-settled}
+use Rattle.events.proofs.Answers.{one-same}
+use Rattle.run.proofs.Tick.{charged-able, able-room, ran-front, elapsed-settled}
 use Rattle.scheduler.specs.declared.parts.Head.{Head}
 use Rattle.scheduler.specs.declared.settle.Settling.{Settling}
 use Rattle.scheduler.specs.Inner.Parts.{stateOf, runOf, headOf, atMode}

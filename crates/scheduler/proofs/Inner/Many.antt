@@ -12,26 +12,30 @@ use borrow.Author.Tests.{le-leb, lt-leb}
 use Rattle.laws.proofs.Choice.{if-ind}
 use Rattle.table.specs.declared.Table.{Table}
 use Rattle.table.specs.declared.Refusal.the-variants.{RoomShort, Unsound}
-use Rattle.run.specs.declared.Event.the-variants.{Release}
-use Rattle.run.specs.declared.EventLine.{EventLine}
-use Rattle.run.specs.declared.EventLine.the-variants.{Of}
-use Rattle.run.specs.declared.Left.{Left}
-use Rattle.run.specs.declared.Left.the-variants.{Nobody, Done, Cut}
+use Rattle.events.specs.declared.Event.the-variants.{Release}
+use Rattle.events.specs.declared.EventLine.{EventLine}
+use Rattle.events.specs.declared.EventLine.the-variants.{Of}
+use Rattle.events.specs.declared.Left.{Left}
+use Rattle.events.specs.declared.Left.the-variants.{Nobody, Done, Cut}
+use Rattle.events.specs.Boxes.{afterLinesIn, toldAllIn}
 use Rattle.run.specs.declared.Run.{Run}
-use Rattle.run.specs.declared.Taking.the-variants.{Taken}
-use Rattle.run.specs.declared.TickAnswer.{TickAnswer}
-use Rattle.run.specs.declared.Told.{Told}
-use Rattle.run.specs.declared.Told.the-variants.{No, Released, Ticked}
-use Rattle.run.specs.declared.Turn.{Turn}
-use Rattle.run.specs.declared.Turn.the-variants.{Run as Ran, Empty, Idle}
+use Rattle.events.specs.declared.Taking.the-variants.{Taken}
+use Rattle.events.specs.declared.TickAnswer.{TickAnswer}
+use Rattle.events.specs.declared.Told.{Told}
+use Rattle.events.specs.declared.Told.the-variants.{No, Released, Ticked}
+use Rattle.events.specs.declared.Turn.{Turn}
+use Rattle.events.specs.declared.Turn.the-variants.{Run as Ran, Empty, Idle}
+use Rattle.run.specs.Events.{theBox}
 use Rattle.run.specs.Sound.{sound}
 use Rattle.table.specs.Rows.{modeValue}
-use Rattle.run.specs.Values.{lineSaid, linesSaid, turnValues, leftValues, toldValues}
+use Rattle.events.specs.Values.{lineSaid, linesSaid, turnValues, leftValues, toldValues}
 use Rattle.run.specs.Found.{TakenTick, foundValues, allFound, allTold}
-use Rattle.run.specs.Many.{toldTo, afterLine, toldToAll, afterLines, allValues, untaken, taken, manyOf}
+use Rattle.run.specs.Many.{toldTo, afterLine, toldToAll, afterLines, untaken, taken, manyOf}
+use Rattle.events.specs.Values.{allValues}
 use Rattle.run.specs.Many.{ticksAt, ticksAmong, unfound, takenFinding, findOf}
 use Rattle.run.proofs.Shape.{RunShaped}
-use Rattle.run.proofs.Values.{told-length, lines-length}
+use Rattle.events.proofs.Values.{told-length, lines-length, Laid, laid-start, laid-on, laid-end}
+use Rattle.events.proofs.Boxes.{Going as GoingIn, going-end as going-end-in, held-on}
 use Rattle.run.proofs.Found.{found-length}
 use Rattle.run.proofs.ManyLines.{TickTold, tick-told, lines-keep}
 use Rattle.scheduler.specs.declared.many.Reply.{Reply}
@@ -41,120 +45,16 @@ use Rattle.scheduler.specs.Inner.Events.{SoundRun, FoundAt}
 use Rattle.scheduler.specs.Inner.Many.{Tells, isTick, Puts}
 use Rattle.scheduler.proofs.Inner.Events.{shaped}
 
--- The numbers of a turn and of a job that left, one by one.
-turn-listed : (turn : Turn) (xs : List ℕ) →
-    getD (turnValues turn) 0 0 ∷ getD (turnValues turn) 1 0 ∷ getD (turnValues turn) 2 0 ∷ xs ≡ turnValues turn ++ xs
-turn-listed Idle xs = refl
-turn-listed (Empty i) xs = refl
-turn-listed (Ran i k) xs = refl
-
-left-listed : (l : Left) (xs : List ℕ) →
-    getD (leftValues l) 0 0 ∷ getD (leftValues l) 1 0 ∷ xs ≡ leftValues l ++ xs
-left-listed Nobody xs = refl
-left-listed (Done k) xs = refl
-left-listed (Cut k) xs = refl
-
-pub told-listed : (a : TickAnswer) (m : ℕ) (ws ls : List ℕ) → m ≡ modeValue (a .mode) → ws ≡ turnValues (a .turn) →
-    ls ≡ leftValues (a .left) →
-    2 ∷ a .tick .0 ∷ m ∷ getD ws 0 0 ∷ getD ws 1 0 ∷ getD ws 2 0 ∷ getD ls 0 0 ∷ getD ls 1 0 ∷ a .discarded ∷ []
-    ≡ toldValues (Ticked a)
-unfolding toldValues
-told-listed a m ws ls e f g =
-    rw (e, f, g)
-    (ap (λ xs. 2 ∷ a .tick .0 ∷ modeValue (a .mode) ∷ xs)
-    (turn-listed (a .turn) _ ∙ ap (λ xs. turnValues (a .turn) ++ xs) (left-listed (a .left) (a .discarded ∷ []))))
-
-pub release-said : (x v : ℕ) → (x ≡ 0 → ⊥) → (x ≡ 1 → ⊥) → Of (Release v) ≡ lineSaid x v
-release-said zero v h g = absurd (h refl)
-release-said (suc zero) v h g = absurd (g refl)
-release-said (suc (suc x)) v h g = refl
-
--- The lines that are left, of two numbers each.
-pub line-at : (vs : List ℕ) (i : ℕ) → i < length (linesSaid vs) →
-    drop i (linesSaid vs) ≡ lineSaid (getD vs (2 * i) 0) (getD vs (2 * i + 1) 0) ∷ drop (i + 1) (linesSaid vs)
-unfolding linesSaid
-line-at [] i h = absurd (omega arith)
-line-at (x ∷ []) i h = absurd (omega arith)
-line-at (x ∷ (v ∷ vs)) zero h = refl
-line-at (x ∷ (v ∷ vs)) (suc i) h =
-    let a : 2 * suc i ≡ suc (suc (2 * i)) = omega arith in
-    let b : suc (suc (2 * i)) + 1 ≡ suc (suc (2 * i + 1)) = omega arith in
-    let c : suc i + 1 ≡ suc (i + 1) = omega arith in
-    rw (a, b, c) (line-at vs i (omega arith))
-
--- Lists of w numbers each, put one after the other at the front of a lent room: after n of them `left`
--- is the room, and of all their numbers `rest` is still to be put.
-pub record Laid (w : ℕ) (all rest room left : List ℕ) (n : ℕ) : Type 0 where
-  pub put : all ≡ take (w * n) left ++ rest
-  pub beyond : drop (w * n) left ≡ drop (w * n) room
-  pub long : length left ≡ length room
-
-laid-start : (w : ℕ) (all room : List ℕ) → Laid w all all room room 0
-laid-start w all room = record { put = rw (mul-zero w); beyond = refl; long = refl }
-
-laid-on : (w : ℕ) (all rest room left : List ℕ) (n : ℕ) (xs rest′ left′ : List ℕ) → length xs ≡ w →
-    w * (n + 1) ≤ length room → rest ≡ xs ++ rest′ → left′ ≡ paste left (w * n) xs w → Laid w all rest room left n →
-    Laid w all rest′ room left′ (n + 1)
-laid-on w all rest room left n xs rest′ left′ e b q p g =
-    let m : w * (n + 1) ≡ w * n + w = omega arith in
-    let f : w * n ≤ length left = omega (arith, g .long) in
-    let k : w ≤ length xs = omega (arith, e) in
-    record {
-      put =
-          g .put
-          ∙ rw (q, p, m, take-paste left (w * n) xs w f k, take-all w xs (omega (arith, e)))
-          (sym (append-assoc (take (w * n) left) xs rest′));
-      beyond =
-          rw (p, m, drop-paste left (w * n) xs w f k)
-          (sym (drop-drop w (w * n) left) ∙ ap (drop w) (g .beyond) ∙ drop-drop w (w * n) room);
-      long = rw p (length-paste left (w * n) xs w (omega (arith, g .long)) k ∙ g .long);
-    }
-
-laid-end : (w : ℕ) (all rest room left : List ℕ) (n : ℕ) → rest ≡ [] → Laid w all rest room left n →
-    left ≡ all ++ drop (w * n) room
-laid-end w all rest room left n e g =
-    let v : all ≡ take (w * n) left = g .put ∙ rw e (append-nil (take (w * n) left)) in
-    rw (v, ← g .beyond) (sym (take-append-drop (w * n) left))
-
 -- After i of the lines, from run r: z is the run, and `left` the room.
-pub record Going (r : Run) (ls : List EventLine) (room : List ℕ) (z : Run) (left : List ℕ) (i : ℕ) : Type 0 where
-  pub run : afterLines r ls ≡ afterLines z (drop i ls)
-  pub told : Laid 9 (allValues (toldToAll r ls)) (allValues (toldToAll z (drop i ls))) room left i
-
-pub going-start : (r : Run) (ls : List EventLine) (room : List ℕ) → Going r ls room r room 0
-going-start r ls room = record { run = refl; told = laid-start 9 (allValues (toldToAll r ls)) room }
-
--- one line more
-run-on : (r : Run) (ls : List EventLine) (z : Run) (i : ℕ) (l : EventLine) (y : Run) →
-    drop i ls ≡ l ∷ drop (i + 1) ls → y ≡ afterLine z l → afterLines r ls ≡ afterLines z (drop i ls) →
-    afterLines r ls ≡ afterLines y (drop (i + 1) ls)
-unfolding afterLines
-run-on r ls z i l y d q g = g ∙ rw d (ap (λ x. afterLines x (drop (i + 1) ls)) (sym q))
-
-pub going-on : (r : Run) (ls : List EventLine) (room : List ℕ) (z : Run) (left : List ℕ) (i : ℕ) (l : EventLine)
-    (y : Run) (xs left′ : List ℕ) → 9 * (i + 1) ≤ length room → drop i ls ≡ l ∷ drop (i + 1) ls → y ≡ afterLine z l →
-    xs ≡ toldValues (toldTo z l) → left′ ≡ paste left (9 * i) xs 9 → Going r ls room z left i →
-    Going r ls room y left′ (i + 1)
-unfolding toldToAll allValues
-going-on r ls room z left i l y xs left′ b d q v p g =
-    let rest = allValues (toldToAll y (drop (i + 1) ls)) in
-    record {
-      run = run-on r ls z i l y d q (g .run);
-      told =
-          laid-on 9 (allValues (toldToAll r ls)) (allValues (toldToAll z (drop i ls))) room left i xs rest left′
-          (ap length v ∙ told-length (toldTo z l)) b (ap (λ x. allValues (toldToAll z x)) d ∙ rw (v, q)) p (g .told);
-    }
+abbrev pub Going : Run → List EventLine → List ℕ → Run → List ℕ → ℕ → Type 0
+Going r ls room z left i = GoingIn theBox r ls room z left i
 
 pub going-end : (r : Run) (ls : List EventLine) (room : List ℕ) (z : Run) (left : List ℕ) (i : ℕ) → i ≡ length ls →
     Going r ls room z left i →
     record { many = record { answer = Taken; run = z }; room = left } ≡ taken r ls room
-unfolding afterLines toldToAll allValues
 going-end r ls room z left i e g =
-    let d : drop i ls ≡ [] = drop-of-length-le ls {i = i} (omega (arith, e)) in
-    let u : afterLines r ls ≡ z = g .run ∙ rw d in
-    let rest = allValues (toldToAll z (drop i ls)) in
-    let v = laid-end 9 (allValues (toldToAll r ls)) rest room left i (rw d) (g .told) in
-    rw (u, ← e) (ap (λ x. record { many = record { answer = Taken; run = z }; room = x }) v)
+    let h = going-end-in theBox r ls room z left i e g in
+    rw (h .0, ← h .1)
 
 -- Of some ticks, one after the other, what is told and what is found is put into two lent rooms: after m
 -- of them v′ and f′ are the rooms, and `rest` are the ticks that are still to come.
@@ -240,7 +140,7 @@ seeking-on r ls v f z v′ f′ m i l y x seen v″ f″ n b c d q e s p g =
     let k : Kept (r .table) all (ticksAt z l ++ rest) v f v′ f′ m =
     subst (λ js. Kept (r .table) all (ticksAmong z js) v f v′ f′ m) d (g .kept) in
     record {
-      run = run-on r ls z i l y d q (g .run);
+      run = held-on theBox r ls z i l y d q (g .run);
       kept =
           rw q
           (kept-on (r .table) all rest v f v′ f′ m b c seen v″ f″ n x (ticksAt z l)
@@ -250,7 +150,7 @@ seeking-on r ls v f z v′ f′ m i l y x seen v″ f″ n b c d q e s p g =
 pub seeking-end : (r : Run) (ls : List EventLine) (v f : List ℕ) (z : Run) (v′ f′ : List ℕ) (m i : ℕ) →
     i ≡ length ls → Seeking r ls v f z v′ f′ m i →
     record { finding = record { answer = Taken; run = z; ticks = m }; told = v′; found = f′ } ≡ takenFinding r ls v f
-unfolding afterLines ticksAmong allTold allFound
+unfolding afterLinesIn ticksAmong allTold allFound
 seeking-end r ls v f z v′ f′ m i e g =
     let d : drop i ls ≡ [] = drop-of-length-le ls {i = i} (omega (arith, e)) in
     let u : afterLines r ls ≡ z = g .run ∙ rw d in
@@ -265,7 +165,7 @@ seeking-end r ls v f z v′ f′ m i e g =
 -- A line keeps the run sound, and its parts in their arrays.
 pub line-keeps : (t : Table) (h : Head) (ss ks u e w c : List ℕ) → SoundRun t h ss ks u e w c → (l : EventLine) (d : Reply)
     (u′ e′ w′ c′ f′ : List ℕ) → Tells t d u′ e′ w′ c′ f′ (runOf t h u e w c) l → SoundRun t (d .head) ss ks u′ e′ w′ c′
-unfolding afterLines
+unfolding afterLinesIn
 line-keeps t h ss ks u e w c p l d u′ e′ w′ c′ f′ q =
     let s = p .shows in
     let z : RunShaped (runOf t h u e w c) = record { table = s .sized; state = shaped t h ss ks u e w c p } in

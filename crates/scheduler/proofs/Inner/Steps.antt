@@ -23,17 +23,16 @@ use Rattle.table.specs.declared.Table.{Table}
 use Rattle.table.specs.declared.Task.{Task}
 use Rattle.table.specs.Rows.{periodAt, taskAt, inMode}
 use Rattle.run.specs.declared.Judged.{Judged}
-use Rattle.run.specs.declared.Left.{Left}
-use Rattle.run.specs.declared.Left.the-variants.{Nobody, Done, Cut}
+use Rattle.events.specs.declared.Left.{Left}
+use Rattle.events.specs.declared.Left.the-variants.{Nobody, Done, Cut}
 use Rattle.run.specs.declared.State.{State}
-use Rattle.run.specs.declared.Turn.{Turn}
-use Rattle.run.specs.declared.Turn.the-variants.{Run as Ran, Empty, Idle}
-use Rattle.run.specs.Answers.{one}
+use Rattle.events.specs.declared.Turn.{Turn}
+use Rattle.events.specs.declared.Turn.the-variants.{Run as Ran, Empty, Idle}
+use Rattle.events.specs.Answers.{one}
 use Rattle.run.specs.State.{someWaits, withMode}
 use Rattle.run.specs.Tick.{height, countsAs, raises, raised, judge, step1, enters, drops, discards, step2, step3, step4, settle, step5, step6, step7, advance}
 use Rattle.run.proofs.Judge.{below-limit, raises-mode, is-cut, height-at-most, Enough, enough-raised}
-use Rattle.run.proofs.Tick.{one-same}
-use Rattle.run.proofs.Steps.{same-or-not, one-past}
+use Rattle.queues.proofs.Queues.{anew-one, unchanged}
 use Rattle.scheduler.specs.declared.parts.Head.{Head}
 use Rattle.scheduler.specs.Inner.Parts.{lastIn, stateOf, atMode}
 use Rattle.scheduler.specs.Inner.Steps.{Judges, noneFound, keptOf, goneOf, notedOf, Discards, waitsAt, isN}
@@ -234,30 +233,6 @@ pub settled-is : (t : Table) (s : State) (mark : Bool) (s₁ s₂ s₃ z : State
     × (f ≡ notedOf (t .ntasks) (settle t s mark .discarded))
 unfolding settle
 settled-is t s mark s₁ s₂ s₃ z l n e₁ e₂ e e₃ e₄ f g = (rw (e₁, e₂, e₃) e₄, rw e₁, rw e₁ e, rw e₁ g)
-
--- One row is one more: as a definition has it, and as a store has it.
-pub anew-one : (n j : ℕ) (xs : List ℕ) → j < n → anew n (λ i x. x + one j i) xs ≡ set xs j (getD xs j 0 + 1)
-anew-one n j xs h =
-    ext-getD 0 (anew n f xs) (set xs j v) (length-anew n f xs ∙ sym (length-set xs j v))
-    (λ i l. let m : i < length xs = omega (arith, length-anew n f xs) in go i m (same-or-not j i))
-  where
-    f : ℕ → ℕ → ℕ
-    f = λ i x. x + one j i
-
-    v : ℕ
-    v = getD xs j 0 + 1
-
-    other : (i : ℕ) → i < length xs → (j ≡ i → ⊥) → (n ≤ i) ⊎ (i < n) → getD (anew n f xs) i 0 ≡ getD xs i 0
-    other i l d (inl b) = anew-past n f xs i 0 b
-    other i l d (inr b) = anew-at n f xs i 0 b l ∙ rw (one-past j i d) (add-zero (getD xs i 0))
-
-    go : (i : ℕ) → i < length xs → (j ≡ i) ⊎ (j ≡ i → ⊥) → getD (anew n f xs) i 0 ≡ getD (set xs j v) i 0
-    go i l (inl e) =
-        rw (← e) (anew-at n f xs j 0 h (omega arith) ∙ rw (one-same j) (sym (getD-set-same xs j v 0 (omega arith))))
-    go i l (inr d) = other i l d (le-or-lt n i) ∙ sym (getD-set-other xs j i v 0 (λ q. d (sym q)))
-
-unchanged : (n : ℕ) (xs : List ℕ) → anew n (λ i x. x + 0) xs ≡ xs
-unchanged n xs = anew-same n (λ i x. x + 0) xs (λ i x. add-zero x)
 
 -- Steps 5, 6 and 7, turn by turn.
 module _ (i k : ℕ) (xs ys : List ℕ) where

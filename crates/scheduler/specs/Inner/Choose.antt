@@ -2,17 +2,15 @@
 -- steps.
 use mathlib.Core.Path.{_≡_}
 use mathlib.Core.List.{List, _++_}
-use Prim.Native.Nat.{ℕ, zero, suc, _+_, _≤_, _<_}
+use Prim.Native.Nat.{ℕ, _+_, _≤_, _<_}
 use lib.Dec.{ltb}
 use lib.ListN.{getD, drop, replicate}
-use Rattle.laws.specs.declared.Found.{Found}
-use Rattle.laws.specs.declared.Found.the-variants.{At, Nothing}
-use Rattle.laws.specs.Rows.{anew}
+use Rattle.laws.specs.Rows.{anew, foundBy}
 use Rattle.table.specs.declared.Mode.{Mode}
 use Rattle.table.specs.declared.Mode.the-variants.{N, D1, D2}
 use Rattle.table.specs.declared.Table.{Table}
 use Rattle.table.specs.Rows.{priorityAt, taskPriorityAt}
-use Rattle.run.specs.declared.Turn.{Turn}
+use Rattle.events.specs.declared.Turn.{Turn}
 use Rattle.run.specs.Found.{topPriority}
 use Rattle.run.specs.State.{waits}
 use Rattle.run.specs.Tick.{choose, highestAble, highestTask}
@@ -32,11 +30,6 @@ abbrev pub capacityColumn : Mode → ℕ
 capacityColumn N = 96
 capacityColumn D1 = 128
 capacityColumn D2 = 160
-
--- the row found, by its priority; 0 is nothing found
-abbrev pub foundBy : ℕ → ℕ → Found
-foundBy zero row = Nothing
-foundBy (suc height) row = At row
 
 -- tasks in use belong to rows of servers, and their priorities are at most 255
 pub record Owned (h : Head) (tasks : List ℕ) : Type 0 where

@@ -8,7 +8,7 @@ use lib.ListN.{length}
 use Rattle.table.specs.declared.Level.{Level}
 use Rattle.table.specs.declared.Table.{Table}
 use Rattle.table.specs.Rows.{taskAt}
-use Rattle.run.specs.declared.Event.{Event}
+use Rattle.events.specs.declared.Event.{Event}
 use Rattle.run.specs.declared.Run.{Run}
 use Rattle.run.specs.Sound.{sound}
 use Rattle.run.specs.Events.{eventOf}

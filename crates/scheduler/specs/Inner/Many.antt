@@ -7,12 +7,12 @@ use Prim.Native.Nat.{ℕ, _+_, _*_}
 use lib.Seq.{paste}
 use Rattle.laws.specs.Choice.{if_then_else_}
 use Rattle.table.specs.declared.Table.{Table}
-use Rattle.run.specs.declared.EventLine.{EventLine}
+use Rattle.events.specs.declared.EventLine.{EventLine}
 use Rattle.run.specs.declared.Run.{Run}
-use Rattle.run.specs.declared.Taking.the-variants.{Taken}
-use Rattle.run.specs.declared.Told.{Told}
-use Rattle.run.specs.declared.Told.the-variants.{No, Released, Ticked}
-use Rattle.run.specs.Values.{linesSaid, toldValues}
+use Rattle.events.specs.declared.Taking.the-variants.{Taken}
+use Rattle.events.specs.declared.Told.{Told}
+use Rattle.events.specs.declared.Told.the-variants.{No, Released, Ticked}
+use Rattle.events.specs.Values.{linesSaid, toldValues}
 use Rattle.run.specs.Many.{toldTo, afterLine, ticksAt, taken, takenFinding}
 use Rattle.scheduler.specs.declared.parts.Head.{Head}
 use Rattle.scheduler.specs.declared.many.Passed.{Passed}

@@ -18,9 +18,10 @@ use Rattle.table.specs.declared.Task.{Task}
 use Rattle.table.specs.Rules.{tableKeeps}
 use Rattle.table.specs.Inner.{Sized}
 use Rattle.run.specs.declared.Judged.{Judged}
-use Rattle.run.specs.declared.Turn.{Turn}
-use Rattle.run.specs.declared.Turn.the-variants.{Run as Ran, Empty, Idle}
-use Rattle.run.specs.Tick.{judge, step1, step2, discards, step3, step4, settle, step5, step6, step7, advance, lastOf, ranJob}
+use Rattle.events.specs.declared.Turn.{Turn}
+use Rattle.events.specs.declared.Turn.the-variants.{Run as Ran, Empty, Idle}
+use Rattle.queues.specs.Queues.{lastOf, ranJob}
+use Rattle.run.specs.Tick.{judge, step1, step2, discards, step3, step4, settle, step5, step6, step7, advance}
 use Rattle.scheduler.specs.declared.parts.Head.{Head}
 use Rattle.scheduler.specs.declared.settle.Risen.{Risen}
 use Rattle.scheduler.specs.declared.settle.Settling.{Settling}

@@ -1,5 +1,6 @@
 -- `serving::answer_lines` meets its contract: the run is told of the lines, and what it tells is
--- printed (Inner.antt). Assumes nothing.
+-- printed (crate lines, proofs/Serving.antt).
+-- Assumes nothing.
 use mathlib.Core.Path.{_≡_, sym, ap, _∙_}
 use mathlib.Core.List.{List}
 use Prim.Native.Nat.{ℕ, _*_, _/_, _≤_}
@@ -9,12 +10,15 @@ use lib.Seq.{length-take-le}
 use borrow.Author.Needs.{needs}
 use mathlib.Core.Bool.{true}
 use Rattle.run.specs.Sound.{sound}
-use Rattle.run.specs.Values.{linesSaid}
-use Rattle.serving.specs.Buffer.{batch}
-use Rattle.serving.specs.Inner.{isTaken}
-use Rattle.run.proofs.Values.{line-values-length}
-use Rattle.serving.proofs.Inner.{told-sound, told-unsound, run-after, told-front}
-use Rattle.serving.proofs.Inner.{printed-text, cut-unsound, cut-refused, cut-answered}
+use Rattle.events.specs.Values.{linesSaid}
+use Rattle.run.specs.Events.{theBox}
+use Rattle.lines.specs.Serving.{batch}
+use Rattle.lines.specs.Inner.{isTaken}
+use Rattle.serving.specs.Buffer.{serviceOf}
+use Rattle.events.proofs.Values.{line-values-length}
+use Rattle.lines.proofs.Serving.{Telling, told-sound, told-unsound, printed-text}
+use Rattle.lines.proofs.Serving.{cut-unsound, cut-refused, cut-answered}
+use Rattle.serving.proofs.Inner.{many-told}
 use Rattle.serving.proofs.answer_lines.Statement.{statement}
 use Rattle.serving.proofs.answer_lines.Tie as tie
 
@@ -28,34 +32,42 @@ fits c = omega (arith, c .pre .few, length-replicate {A = ℕ} (9 * batch) 0)
 abbrev entry : tie.After-answer-many → tie.Start
 entry c = c .before .before .before .before
 
-returns : tie.Need-returns
+-- what the run told
+telling : (c : tie.After-answer-many) →
+    let a = entry c .args in
+    let m = c .answer-many in
+    Telling theBox (a .r) (linesSaid (a .lines .now)) (m .result .answer) (m .result .run) (m .last .1 .1 .0)
 unfolding batch
+telling c =
+    let a = entry c .args in
+    let m = c .answer-many in
+    many-told (a .r) (a .lines .now) (replicate (9 * batch) 0) (fits (entry c)) (m .result) (m .last .1 .1 .0) (m .ensures)
+
+returns : tie.Need-returns
 returns c =
     let m = c .before .before .before .before in
     let a = entry m .args in
-    ap (λ x. record { served = x; room = a .room .now }) (c .refused .ensures) ∙
-    cut-unsound (a .r) (a .h) (a .c) (linesSaid (a .lines .now)) (a .room .now)
-    (told-unsound (a .r) (a .lines .now) (replicate (9 * batch) 0) (fits (entry m)) _ _ (m .answer-many .ensures)
+    ap (λ x. serviceOf (record { served = x; room = a .room .now })) (c .refused .ensures) ∙
+    cut-unsound theBox (a .r) (a .h) (a .c) (linesSaid (a .lines .now)) (a .room .now)
+    (told-unsound theBox (a .r) (linesSaid (a .lines .now)) _ _ _ (telling m)
     (ap isTaken (c .before .enum-told2 .given .1)))
 
 -- a run that answered is sound
 is-sound : (c : tie.After-enum-told) → sound (entry (c .before .before .before) .args .r) ≡ true
-unfolding batch
 is-sound c =
     let m = c .before .before .before in
     let a = entry m .args in
-    told-sound (a .r) (a .lines .now) (replicate (9 * batch) 0) (fits (entry m)) _ _ (m .answer-many .ensures)
-    (c .enum-told .given .1)
+    told-sound theBox (a .r) (linesSaid (a .lines .now)) _ _ _ (telling m) (c .enum-told .given .1)
 
 returns-2 : tie.Need-returns-2
 returns-2 c =
     let t = c .before .before .before in
     let a = entry (t .before .before .before) .args in
-    ap (λ x. record { served = x; room = a .room .now }) (c .refused2 .ensures) ∙
-    cut-refused (a .r) (a .h) (a .c) (linesSaid (a .lines .now)) (a .room .now) (is-sound t)
+    ap (λ x. serviceOf (record { served = x; room = a .room .now })) (c .refused2 .ensures) ∙
+    cut-refused theBox (a .r) (a .h) (a .c) (linesSaid (a .lines .now)) (a .room .now) (is-sound t)
     (ap isTaken (c .before .enum-told4 .given .1))
 
--- what the run told, and how much of it there is
+-- there is as much of it
 told-room : (c : tie.After-answer-many) → 9 * (length (entry c .args .lines .now) / 2) ≤ length
     (c .answer-many .last .1 .1 .0)
 unfolding batch
@@ -69,7 +81,6 @@ slice-aggregate-print-lines : tie.Need-slice-aggregate-print-lines
 slice-aggregate-print-lines c = sym (length-take-le _ _ (told-room (c .before .before .before .before .before .before)))
 
 returns-3 : tie.Need-returns-3
-unfolding batch
 returns-3 c =
     let p = c .before .before .before .before in
     let u = p .before .before .before in
@@ -78,15 +89,13 @@ returns-3 c =
     let s = entry m in
     let a = s .args in
     let ls = linesSaid (a .lines .now) in
-    let told : List ℕ = replicate (9 * batch) 0 in
     let n : 9 * (length (a .lines .now) / 2) ≡ 9 * length ls = omega (arith, half s) in
-    let front = told-front (a .r) (a .lines .now) told (fits s) _ _ (m .answer-many .ensures) (is-sound t) in
     let text =
-    printed-text (a .r) (a .lines .now) _ (a .room .now) (s .pre)
-    (ap (λ k. take k (m .answer-many .last .1 .1 .0)) n ∙ front) _ _
+    printed-text theBox (a .r) (a .lines .now) _ (a .room .now) (s .pre)
+    (ap (λ k. take k (m .answer-many .last .1 .1 .0)) n ∙ telling m .front (is-sound t)) _ _
     (p .print-lines .ensures) in
-    cut-answered (a .r) (a .h) (a .c) ls (a .room .now) (is-sound t) (u .enum-told3 .given .1) _ _ _
-    (run-after (a .r) (a .lines .now) told (fits s) _ _ (m .answer-many .ensures) (is-sound t))
+    cut-answered theBox (a .r) (a .h) (a .c) ls (a .room .now) (is-sound t) (u .enum-told3 .given .1) _ _ _
+    (telling m .after (is-sound t))
     (text .0)
     (text .1)
 

@@ -1,5 +1,5 @@
 -- `serving::serve` meets its contract: the lines are cut into numbers of its own, and answered
--- (Inner.antt). Assumes nothing.
+-- (crate lines, proofs/Serving.antt). Assumes nothing.
 use mathlib.Core.Path.{_≡_, refl, sym, ap, _∙_}
 use mathlib.Core.List.{List, _++_}
 use Prim.Native.Nat.{ℕ, _+_, _*_, _≤_}
@@ -7,8 +7,10 @@ use native.Mathlib.Omega.{arith}
 use lib.ListN.{length, take, drop, replicate, length-replicate, length-append}
 use lib.Seq.{length-take-le}
 use borrow.Author.Needs.{needs}
-use Rattle.serving.specs.Buffer.{batch, linesAtOnce}
-use Rattle.serving.proofs.Inner.{cut-many, cut-fits, cut-served}
+use Rattle.run.specs.Events.{theBox}
+use Rattle.lines.specs.Serving.{batch, linesAtOnce}
+use Rattle.lines.proofs.Serving.{cut-many, cut-fits, cut-served}
+use Rattle.serving.specs.Buffer.{bufferedOf}
 use Rattle.serving.proofs.serve.Statement.{statement}
 use Rattle.serving.proofs.serve.Tie as tie
 
@@ -93,10 +95,11 @@ returns c =
     let p = c .before .before in
     let k = p .before .before .before .before in
     let a = entry k .args in
-    p .answer-lines .ensures ∙
+    ap bufferedOf
+    (p .answer-lines .ensures ∙
     cut-served (a .h) (a .input .now) (lent k) (length (a .room .now)) (long k) (k .cut-lines .result)
     (k .cut-lines .last .1 .1 .0) (rest k)
-    (k .cut-lines .ensures) (a .r) (a .room .now) refl
+    (k .cut-lines .ensures) theBox (a .r) (a .room .now) refl)
 
 pub serve-spec : {M : Type 1} → statement M
 serve-spec =

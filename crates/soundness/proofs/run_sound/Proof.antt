@@ -23,27 +23,21 @@ servers-sound-requires c κs = servers-fit _ (kept c)
 tasks-sound-requires : tie.Need-tasks-sound-requires
 tasks-sound-requires c κs = tasks-fit _ (kept (c .before))
 
-last-sound-requires : tie.Need-last-sound-requires
-last-sound-requires c κs = tasks-fit _ (kept (c .before .before))
-
-counts-sound-requires : tie.Need-counts-sound-requires
-counts-sound-requires c κs = tasks-fit _ (kept (c .before .before .before))
-
 returns-2 : tie.Need-returns-2
 returns-2 c =
+    let n = c .before .before .before .before .before .before in
     c .all-of .ensures
     ∙ rw (
-      c .before .before .before .before .before .servers-sound .ensures,
-      c .before .before .before .before .tasks-sound .ensures,
+      n .before .servers-sound .ensures,
+      n .tasks-sound .ensures,
       c .before .before .before .last-sound .ensures,
       c .before .before .counts-sound .ensures,
     )
-    (state-asked (c .before .before .before .before .before .before .before .before .args .t)
-    (c .before .before .before .before .before .before .before .before .args .s)
-    (kept (c .before .before .before .before .before .before)))
+    (state-asked (n .before .before .before .before .args .t) (n .before .before .before .before .args .s)
+    (kept (n .before .before)))
 
 pub run-sound-spec : {M : Type 1} → statement M
 run-sound-spec =
     tie.close
-    (tie.spec (λ c κs. search needs) returns servers-sound-requires tasks-sound-requires
-    last-sound-requires counts-sound-requires (λ c. search needs) (λ c κs. search needs) returns-2)
+    (tie.spec (λ c κs. search needs) returns servers-sound-requires tasks-sound-requires (λ c κs. search needs)
+    (λ c κs. search needs) (λ c. search needs) (λ c κs. search needs) returns-2)

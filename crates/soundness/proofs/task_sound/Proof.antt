@@ -12,5 +12,5 @@ returns c = cc
 pub task-sound-spec : {M : Type 1} → statement M
 task-sound-spec =
     tie.close
-    (tie.spec (λ c κs. search needs) (λ c κs. search needs) (λ c. search needs)
+    (tie.spec (λ c κs. search needs) (λ c κs. search needs) (λ c κs. search needs) (λ c. search needs)
     (λ c κs. search needs) returns)

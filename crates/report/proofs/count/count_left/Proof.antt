@@ -2,7 +2,7 @@
 use Prim.Native.Nat.{_+_}
 use native.Mathlib.Omega.{arith}
 use native.Mathlib.Nat.{zero-add}
-use Rattle.run.proofs.Steps.{set-past}
+use Rattle.queues.proofs.Queues.{set-past}
 use borrow.Author.Needs.{needs}
 use Rattle.report.proofs.count.count_left.Statement.{statement}
 use Rattle.report.proofs.count.count_left.Tie as tie

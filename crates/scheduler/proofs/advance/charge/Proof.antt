@@ -1,6 +1,6 @@
 -- `scheduler::advance::charge` meets its contract, turn by turn. Assumes nothing.
 use borrow.Author.Needs.{needs}
-use Rattle.run.specs.declared.Turn.the-variants.{Run as Ran, Empty}
+use Rattle.events.specs.declared.Turn.the-variants.{Run as Ran, Empty}
 use Rattle.scheduler.specs.Inner.Steps.{ChargeFits}
 use Rattle.scheduler.proofs.Inner.Steps.{charges-run, charges-empty, charges-idle}
 use Rattle.scheduler.proofs.advance.charge.Statement.{statement}

@@ -11,7 +11,8 @@ use Rattle.run.specs.Found.{topPriority}
 use Rattle.run.specs.Tick.{highestAble, highestTask}
 use Rattle.run.specs.declared.State.{State}
 use Rattle.scheduler.specs.Inner.Parts.{stateOf}
-use Rattle.scheduler.specs.Inner.Choose.{foundBy, withTops}
+use Rattle.laws.specs.Rows.{foundBy}
+use Rattle.scheduler.specs.Inner.Choose.{withTops}
 use Rattle.scheduler.specs.Inner.Steps.{Shows}
 use Rattle.scheduler.proofs.Inner.Columns.{owner-on, task-priority-on}
 use Rattle.scheduler.proofs.Inner.Choose.{waits-found, says-idle, says-turn, row-there, owner-row}

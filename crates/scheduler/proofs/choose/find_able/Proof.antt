@@ -15,7 +15,8 @@ use Rattle.scheduler.specs.declared.parts.Head.{Head}
 use Rattle.scheduler.specs.Inner.Columns.{ServersOn}
 use Rattle.scheduler.specs.Inner.Parts.{stateOf}
 use Rattle.scheduler.specs.Inner.Choose.{capacityColumn}
-use Rattle.scheduler.proofs.Inner.Choose.{Top, top-none, top-skip, top-take, top-keep, able-is, able-found}
+use Rattle.laws.proofs.Highest.{Top, top-none, top-skip, top-take, top-keep}
+use Rattle.scheduler.proofs.Inner.Choose.{able-is, able-found}
 use Rattle.scheduler.proofs.Inner.Columns.{priority-on}
 use Rattle.scheduler.proofs.choose.find_able.Statement.{statement}
 use Rattle.scheduler.proofs.choose.find_able.Tie as tie

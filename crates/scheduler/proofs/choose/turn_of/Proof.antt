@@ -1,6 +1,6 @@
 -- `scheduler::choose::turn_of` meets its contract. Assumes nothing.
 use native.Mathlib.Omega.{arith}
-use Rattle.scheduler.proofs.Inner.Choose.{found-there}
+use Rattle.laws.proofs.Highest.{found-there}
 use Rattle.scheduler.proofs.choose.turn_of.Statement.{statement}
 use Rattle.scheduler.proofs.choose.turn_of.Tie as tie
 

@@ -1,7 +1,7 @@
 -- `scheduler::many::answer_line` meets its contract: an event, or another line. Assumes nothing.
 use mathlib.Core.Path.{refl, ap, _∙_}
 use borrow.Author.Needs.{needs}
-use Rattle.run.specs.Values.{toldOf}
+use Rattle.events.specs.Values.{toldOf}
 use Rattle.scheduler.proofs.many.answer_line.Statement.{statement}
 use Rattle.scheduler.proofs.many.answer_line.Tie as tie
 

@@ -4,13 +4,14 @@ use mathlib.Core.Path.{_≡_, refl, ap, _∙_}
 use Prim.Native.Nat.{_+_, _*_, _/_, _≤_, _<_, _-_}
 use native.Mathlib.Omega.{arith}
 use lib.ListN.{length}
-use lib.Seq.{length-paste}
 use Rattle.table.specs.declared.Table.{Table}
-use Rattle.run.specs.Values.{linesSaid, toldValues}
+use Rattle.events.specs.Values.{linesSaid}
 use Rattle.scheduler.specs.Inner.Events.{SoundRun}
-use Rattle.run.proofs.Values.{told-length, lines-length}
+use Rattle.events.proofs.Values.{lines-length, lines-left, told-put-length}
+use Rattle.events.proofs.Boxes.{going-start, going-on}
+use Rattle.run.specs.Events.{theBox}
 use Rattle.scheduler.specs.Inner.Parts.{runOf}
-use Rattle.scheduler.proofs.Inner.Many.{line-at, Going, going-start, going-on, going-end, line-keeps}
+use Rattle.scheduler.proofs.Inner.Many.{Going, going-end, line-keeps}
 use Rattle.scheduler.proofs.many.answer_lines.Statement.{statement}
 use Rattle.scheduler.proofs.many.answer_lines.Tie as tie
 
@@ -25,8 +26,8 @@ abbrev μ-loop : tie.MeasureT-loop
 μ-loop servers tasks used₀ elapsed₀ waiting₀ runs₀ lines told₀ head₀ n i₀ used elapsed waiting runs told head i = n - i
 
 -- the place in the loop, and the room for one line more
-abbrev inside : tie.After-told-values Inv-loop μ-loop → tie.In-loop Inv-loop μ-loop
-inside c = c .before .before .before .before .before .before .before .before .before .before .before
+abbrev inside : tie.After-head Inv-loop μ-loop → tie.In-loop Inv-loop μ-loop
+inside c = c .before .before .before .before .before .before .before .before .before .before
 
 room : (c : tie.In-loop Inv-loop μ-loop) → 9 * (c .before .loop .i + 1) ≤ length (c .before .loop .told)
 room c =
@@ -41,7 +42,7 @@ small c =
 
 loop-holds : tie.Need-loop-holds Inv-loop μ-loop
 loop-holds c =
-    (omega arith, omega arith, omega (arith, c .before .before .pre .0), refl, λ t p. (p, going-start _ _ _))
+    (omega arith, omega arith, omega (arith, c .before .before .pre .0), refl, λ t p. (p, going-start theBox _ _ _))
 
 answer-line-requires : tie.Need-answer-line-requires Inv-loop μ-loop
 answer-line-requires c κs =
@@ -49,22 +50,16 @@ answer-line-requires c κs =
     let p = l .before .before .before .pre .1 in
     ((p .0, l .loop .inv .4 (p .0) (p .1) .0), refl)
 
-mul-put-values : tie.Need-mul-put-values Inv-loop μ-loop
-mul-put-values c = omega (arith, small (inside (c .before .before)))
-
-put-values-requires : tie.Need-put-values-requires Inv-loop μ-loop
-put-values-requires c κs =
-    let x = c .before .before in
-    (ap length (x .told-values .ensures) ∙ told-length _, omega (arith, room (inside x)))
+mul-put-told : tie.Need-mul-put-told Inv-loop μ-loop
+mul-put-told c = omega (arith, small (inside (c .before)))
 
 add-i : tie.Need-add-i Inv-loop μ-loop
-add-i c = omega (arith, small (inside (c .before .before .before .before .before)))
+add-i c = omega (arith, small (inside (c .before .before .before .before)))
 
 loop-again : tie.Need-loop-again Inv-loop μ-loop
 loop-again c =
     let v = c .before .before in
-    let x = v .before .before .before in
-    let d = x .before .before in
+    let d = v .before .before .before in
     let n = d .before .before .before .before .before .before in
     let l = n .before .before .before .before .loop in
     let s = n .before .before .before .before .before .before .before in
@@ -74,17 +69,14 @@ loop-again c =
       omega arith,
       l .inv .1,
       l .inv .2,
-      ap length (v .put-values .ensures)
-          ∙ length-paste (l .told) (9 * i) (x .told-values .result) 9 (omega (arith, room (inside x)))
-          (omega (arith, ap length (x .told-values .ensures) ∙ told-length _)) ∙ l .inv .3,
+      ap length (v .put-told .ensures) ∙ told-put-length (l .told) (9 * i) (d .answer-line .result .told) ∙ l .inv .3,
       λ t p.
           let q = l .inv .4 t p in
           let y = d .answer-line .ensures t (q .0) in (
             line-keeps t _ _ _ _ _ _ _ (q .0) _ _ _ _ _ _ _ y,
-            going-on _ (linesSaid vs) (s .args .told .now) _ (l .told) i (n .line-said .result) _ (x .told-values .result) _
-                (omega (arith, n .before .before .before .loop-test .taken, l .inv .2))
-                (rw (n .line-said .ensures) (line-at vs i m)) (y .run) (x .told-values .ensures ∙ ap toldValues (y .told))
-                (v .put-values .ensures) (q .1),
+            going-on theBox _ (linesSaid vs) (s .args .told .now) _ (l .told) i (n .line-said .result) _
+                (d .answer-line .result .told) _ (omega (arith, n .before .before .before .loop-test .taken, l .inv .2))
+                (rw (n .line-said .ensures) (lines-left vs i m)) (y .run) (y .told) (v .put-told .ensures) (q .1),
           ),
     )
 
@@ -103,5 +95,5 @@ answer-lines-spec =
     tie.close
     (tie.spec Inv-loop μ-loop loop-holds (λ c. omega arith) (λ c. omega arith) (λ c. omega arith)
     (λ c. omega arith) (λ c. omega arith) (λ c. omega arith) (λ c κs. tt) answer-line-requires
-    (λ c κs. tt) mul-put-values put-values-requires add-i (λ c. omega arith) loop-again same-length
+    mul-put-told (λ c κs. tt) add-i (λ c. omega arith) loop-again same-length
     returns)

@@ -5,11 +5,11 @@ use Prim.Native.Nat.{_+_, _*_, _/_, _≤_, _<_, _-_}
 use native.Mathlib.Omega.{arith}
 use lib.ListN.{length}
 use Rattle.table.specs.declared.Table.{Table}
-use Rattle.run.specs.Values.{linesSaid}
-use Rattle.run.proofs.Values.{lines-length}
+use Rattle.events.specs.Values.{linesSaid}
+use Rattle.events.proofs.Values.{lines-length, lines-left}
 use Rattle.scheduler.specs.Inner.Events.{SoundRun}
 use Rattle.scheduler.specs.Inner.Parts.{runOf}
-use Rattle.scheduler.proofs.Inner.Many.{line-at, line-keeps, tells-long, puts-few}
+use Rattle.scheduler.proofs.Inner.Many.{line-keeps, tells-long, puts-few}
 use Rattle.scheduler.proofs.Inner.Many.{Seeking, seeking-start, seeking-on, seeking-end}
 use Rattle.scheduler.proofs.many.find_lines.Statement.{statement}
 use Rattle.scheduler.proofs.many.find_lines.Tie as tie
@@ -101,7 +101,7 @@ loop-again c =
             line-keeps t _ _ _ _ _ _ _ (q .0) _ _ _ _ _ _ _ y,
             seeking-on _ (linesSaid vs) (a .told .now) (a .found .now) _ (l .told) (l .found) (l .ticks) i
                 (n .line-said .result) _ _ _ _ _ _ (omega (arith, j .loop-test .taken, l .inv .2, l .inv .4))
-                (omega (arith, j .loop-test .taken, l .inv .3, l .inv .4)) (rw (n .line-said .ensures) (line-at vs i m))
+                (omega (arith, j .loop-test .taken, l .inv .3, l .inv .4)) (rw (n .line-said .ensures) (lines-left vs i m))
                 (y .run) (y .told) (y .found) p (q .1),
           ),
     )

@@ -1,8 +1,9 @@
 -- `scheduler::many::put_tick` meets its contract: a tick's numbers are put behind the others, or nothing
 -- is. Assumes nothing.
-use mathlib.Core.Path.{sym, ap, _∙_}
+use mathlib.Core.Path.{sym, _∙_}
 use Prim.Native.Nat.{_*_}
-use lib.Seq.{paste}
+use native.Mathlib.Omega.{arith}
+use Rattle.events.proofs.Values.{told-put}
 use borrow.Author.Needs.{needs}
 use borrow.Author.Tests.{not-true, not-false}
 use Rattle.scheduler.proofs.many.put_tick.Statement.{statement}
@@ -17,19 +18,20 @@ returns-2 : tie.Need-returns-2
 returns-2 c =
     let f = c .before .before in
     let p = f .before .before .before .before in
-    let x = p .before .before .before in
-    let a = x .before .before .before .before .before .args in
-    let yes = sym (x .before .before .is-tick .ensures) ∙ not-false _ (x .before .if1 .left) in
+    let o = p .before .before in
+    let a = o .before .before .before .before .args in
+    let yes = sym (o .before .is-tick .ensures) ∙ not-false _ (o .if1 .left) in
     record {
       ticks = rw yes;
       told =
           rw yes
-          (p .put-values .ensures ∙ ap (λ vs. paste (a .told .now) (9 * a .m) vs 9) (x .told-values .ensures));
+          (p .put-told .ensures
+          ∙ told-put (a .told .now) (9 * a .m) (a .x) (omega (arith, o .before .before .before .before .pre .1)));
       found = rw yes (f .put-found .ensures);
     }
 
 pub put-tick-spec : {M : Type 1} → statement M
 put-tick-spec =
     tie.close
-    (tie.spec (λ c κs. search needs) returns (λ c κs. search needs) (λ c. search needs) (λ c κs. search needs)
+    (tie.spec (λ c κs. search needs) returns (λ c. search needs) (λ c κs. search needs)
     (λ c. search needs) (λ c κs. search needs) (λ c. search needs) (λ c. search needs) (λ c. search needs) returns-2)

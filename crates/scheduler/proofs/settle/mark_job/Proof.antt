@@ -8,6 +8,7 @@ use lib.ListN.{getD}
 use borrow.Author.Tests.{not-true, not-false}
 use Rattle.table.specs.declared.Table.{Table}
 use Rattle.table.specs.Rows.{taskAt}
+use Rattle.queues.proofs.Inner.{waiting-left, runs-left}
 use Rattle.run.specs.Tick.{judge}
 use Rattle.scheduler.specs.Inner.Columns.{levelIn, TasksOn}
 use Rattle.scheduler.proofs.Inner.Steps.{no-job, done, cut, stays}
@@ -53,14 +54,15 @@ returns : tie.Need-returns
 returns c =
     λ t u e p n. no-job t (c .before .before .args .h) u e _ _ _ (not-true _ (c .if1 .taken))
 
-leave-requires : tie.Need-leave-requires
-leave-requires c κs = let o = c .before .before .before in (low o, there o .1)
-
 returns-2 : tie.Need-returns-2
 returns-2 c =
     λ t u e p n.
     let m = c .before .before .before in
-    rw (c .leave .ensures .0, c .leave .ensures .1)
+    let a = entry (m .before) .args in
+    rw (
+      c .leave .ensures .0 ∙ waiting-left (a .waiting .now) (a .h .task) (low (m .before)),
+      c .leave .ensures .1 ∙ runs-left (a .runs .now) (a .h .task) (low (m .before)),
+    )
     (done t (entry (m .before) .args .h) u e _ _ _ (ran (m .before)) (m .if2 .taken))
 
 limits-of-requires : tie.Need-limits-of-requires
@@ -75,16 +77,16 @@ mul-judge-job c = omega (arith, low (c .before .before .before .before))
 element-copy-out-judge-job : tie.Need-element-copy-out-judge-job
 element-copy-out-judge-job c = low (c .before .before .before .before)
 
-leave-requires-2 : tie.Need-leave-requires-2
-leave-requires-2 c κs =
-    let o = unmarked (c .before .before .before) .before in (low o, there o .1)
-
 returns-3 : tie.Need-returns-3
 returns-3 c =
     λ t u e p n.
     let j = c .before .before .before .before in
     let m = unmarked j in
-    rw (c .leave2 .ensures .0, c .leave2 .ensures .1)
+    let a = entry (m .before) .args in
+    rw (
+      c .leave2 .ensures .0 ∙ waiting-left (a .waiting .now) (a .h .task) (low (m .before)),
+      c .leave2 .ensures .1 ∙ runs-left (a .runs .now) (a .h .task) (low (m .before)),
+    )
     (cut t (entry (m .before) .args .h) u e _ _ _ (ran (m .before)) (m .if2 .left)
     (j .judge-job .result) (row-judged j t p n) (c .before .before .before .if3 .taken))
 
@@ -99,5 +101,5 @@ returns-4 c =
 pub mark-job-spec : {M : Type 1} → statement M
 mark-job-spec =
     tie.close
-    (tie.spec returns leave-requires returns-2 limits-of-requires task-cell-requires (λ c κs. tt)
-    mul-judge-job element-copy-out-judge-job (λ c κs. tt) leave-requires-2 returns-3 returns-4)
+    (tie.spec returns (λ c κs. tt) returns-2 limits-of-requires task-cell-requires (λ c κs. tt)
+    mul-judge-job element-copy-out-judge-job (λ c κs. tt) (λ c κs. tt) returns-3 returns-4)

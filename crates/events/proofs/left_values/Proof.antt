@@ -1,0 +1,16 @@
+-- `events::left_values` meets its contract. Assumes nothing.
+use borrow.Author.Needs.{needs}
+use Rattle.events.proofs.left_values.Statement.{statement}
+use Rattle.events.proofs.left_values.Tie as tie
+
+returns-2 : tie.Need-returns-2
+returns-2 c = rw (c .before .left .given .1)
+
+returns-3 : tie.Need-returns-3
+returns-3 c = rw (c .before .left2 .given .1)
+
+pub left-values-spec : {M : Type 1} → statement M
+left-values-spec =
+    tie.close
+    (tie.spec (λ c. search needs) (λ c. search needs) (λ c. search needs) (λ c. search needs)
+    returns-2 returns-3)

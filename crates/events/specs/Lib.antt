@@ -1,0 +1,4 @@
+pub mod Answers
+pub mod Count
+pub mod Values
+pub mod Boxes

@@ -1,0 +1,4 @@
+pub mod Cases
+pub mod Inner
+pub mod Queues
+pub mod Sound
