@@ -18,25 +18,27 @@ use Rattle.table.specs.declared.Refusal.the-variants.{NoJobRan, CountSpent, Uns
 use Rattle.table.specs.declared.Table.{Table}
 use Rattle.table.specs.Rows.{taskAt, limitAt}
 use Rattle.table.proofs.Rules.{table-rules}
-use Rattle.run.specs.declared.Last.{Last}
-use Rattle.run.specs.declared.Last.the-variants.{NoJob, Job}
+use Rattle.queues.specs.declared.Last.{Last}
+use Rattle.queues.specs.declared.Last.the-variants.{NoJob, Job}
+use Rattle.events.specs.Boxes.{afterIn, answersIn}
 use Rattle.run.specs.declared.State.{State}
 use Rattle.run.specs.declared.Run.{Run}
-use Rattle.run.specs.declared.Event.{Event}
-use Rattle.run.specs.declared.Event.the-variants.{Release, Tick}
-use Rattle.run.specs.declared.Left.{Left}
-use Rattle.run.specs.declared.Left.the-variants.{Done, Cut}
+use Rattle.events.specs.declared.Event.{Event}
+use Rattle.events.specs.declared.Event.the-variants.{Release, Tick}
+use Rattle.events.specs.declared.Left.{Left}
+use Rattle.events.specs.declared.Left.the-variants.{Done, Cut}
 use Rattle.run.specs.declared.Answered.{Answered}
 use Rattle.run.specs.State.{waitingAt, runsAt}
 use Rattle.run.specs.Sound.{sound}
 use Rattle.run.specs.Release.{freshRun, refused}
-use Rattle.run.specs.Tick.{height, raises, withoutFront, Stepped, tickTaken, ranJob, ticked, tickOf}
+use Rattle.queues.specs.Queues.{ranJob}
+use Rattle.run.specs.Tick.{height, raises, withoutFront, Stepped, tickTaken, ticked, tickOf}
 use Rattle.run.specs.Events.{eventOf, after, answers}
 use Rattle.run.proofs.Judge.{raised-by-one}
 use Rattle.run.proofs.Taken.{ReleaseTaken, releaseTaken, release-ind, tick-ind}
 use Rattle.run.proofs.Shape.{RunShaped, fresh-run-shaped, event-table, event-run-shaped}
 use Rattle.run.proofs.Sound.{LastSound, sound-table, sound-state}
-use Rattle.run.proofs.Steps.{same-or-not, one-past}
+use Rattle.events.proofs.Answers.{same-or-not, one-past}
 use Rattle.run.proofs.Kept.{waiting-taken}
 use Rattle.run.proofs.Slips.{tickFrom, tick-done, tick-cut}
 use Rattle.promises.specs.Condition2.{OneTick, table, old, new, LiesAbove, Judging, stays, rises, is-cut}
@@ -248,7 +250,7 @@ event-at-most most r (Release k) h so a =
 
 run-at-most : (most : ℕ) (t : Table) (r : Run) (es : List Event) → r .table ≡ t → RunShaped r →
     ReleasesOf (λ k. height (taskAt t k .level) ≤ most) es → AtMost most r → AtMost most (after r es)
-unfolding after
+unfolding afterIn
 run-at-most most t r [] e h so a = a
 run-at-most most t r (Release k ∷ es) e h so a =
     run-at-most most t (eventOf r (Release k) .run) es (event-table r (Release k) ∙ e)
@@ -332,7 +334,7 @@ module _ (r : Run) (k : ℕ) (last : r .state .last ≡ Job k) where
         go true true = record { left = refl; answer = refl; run = refl }
 
 pub costs-one-cut : CostsOneCut
-unfolding answers after
+unfolding answersIn afterIn
 costs-one-cut r k es a rest last limit n e =
     let both = but-left r k last limit n in
     let first : tickOf r false .answer ≡ a = cc in

@@ -18,11 +18,12 @@ use Rattle.table.specs.Rules.{tableKeeps}
 use Rattle.verdict.specs.declared.Verdict.the-variants.{Response}
 use Rattle.verdict.specs.Verdict.{verdictOf}
 use Rattle.verdict.proofs.Verdicts.{response-exactly}
+use Rattle.events.specs.Boxes.{answersIn}
 use Rattle.run.specs.declared.Run.{Run}
-use Rattle.run.specs.declared.Event.{Event}
-use Rattle.run.specs.declared.Event.the-variants.{Release, Tick}
+use Rattle.events.specs.declared.Event.{Event}
+use Rattle.events.specs.declared.Event.the-variants.{Release, Tick}
 use Rattle.run.specs.declared.Answered.{Answered}
-use Rattle.run.specs.declared.TickAnswer.{TickAnswer}
+use Rattle.events.specs.declared.TickAnswer.{TickAnswer}
 use Rattle.run.specs.State.{fresh}
 use Rattle.run.specs.Sound.{sound, soundState}
 use Rattle.run.specs.Release.{freshRun}
@@ -104,7 +105,7 @@ second-bound-prefix t es ms i s x R e q l c v =
 
 -- The tick answers, from the answers.
 pub from-the-answers : FromTheAnswers
-unfolding takenTicks tickAnswers answers
+unfolding takenTicks tickAnswers answersIn
 from-the-answers r [] = refl
 from-the-answers r (Release k ∷ es) =
     release-ind

@@ -21,15 +21,15 @@ use Rattle.table.specs.Rows.{isTimed}
 use Rattle.table.proofs.Rows.{timed-exactly}
 use Rattle.table.proofs.Rules.{TableRules}
 use Rattle.verdict.specs.Verdict.{told}
-use Rattle.run.specs.declared.Last.{Last}
-use Rattle.run.specs.declared.Last.the-variants.{NoJob, Job}
+use Rattle.queues.specs.declared.Last.{Last}
+use Rattle.queues.specs.declared.Last.the-variants.{NoJob, Job}
 use Rattle.run.specs.declared.State.{State}
 use Rattle.run.specs.declared.Run.{Run}
 use Rattle.run.specs.declared.Judged.{Judged}
-use Rattle.run.specs.declared.Left.{Left}
-use Rattle.run.specs.declared.Left.the-variants.{Nobody, Cut}
+use Rattle.events.specs.declared.Left.{Left}
+use Rattle.events.specs.declared.Left.the-variants.{Nobody, Cut}
 use Rattle.run.specs.State.{usedAt, elapsedAt, waitingAt, runsAt, owner, taskWaits, waitsFor, waits}
-use Rattle.run.specs.Answers.{charged}
+use Rattle.events.specs.Answers.{charged}
 use Rattle.run.specs.Tick.{height, countsAs, raises, raised, judge, judged, step1, drops, discards, step2, step4}
 use Rattle.run.specs.Tick.{settle, able, highestAble, highestTask, choose, advance, tickTaken}
 use Rattle.run.proofs.Judge.{height-at-most, Enough, enough-raised}
@@ -38,8 +38,10 @@ use Rattle.run.proofs.Sound.{StateSound}
 use Rattle.run.proofs.Steps.{step1-waiting, drops-exactly, runs-stay, step2-runs, step3-runs}
 use Rattle.run.proofs.Steps.{waiting-settled, runs-after}
 use Rattle.run.proofs.Tick.{used-after, elapsed-after, elapsed-settled, ticks-after, accepted-after}
-use Rattle.run.proofs.Tick.{turn-run, turn-empty, turn-idle, turn-last, owner-exactly, charged-is}
-use Rattle.run.proofs.Tick.{charged-le, one-charged, highest-charged, charged-highest, one-same}
+use Rattle.run.proofs.Tick.{turn-run, turn-empty, turn-idle, turn-last, owner-exactly}
+use Rattle.events.proofs.Answers.{charged-is}
+use Rattle.events.proofs.Answers.{charged-le, one-charged, one-same}
+use Rattle.run.proofs.Tick.{highest-charged, charged-highest}
 use Rattle.run.proofs.Tick.{timed-able, waiting-able, able-room, able-cause}
 use Rattle.run.proofs.Slips.{used-anew, used-stays, none-waits-normal, waits-as-risen, next-starts}
 use Rattle.run.proofs.Count.{tick-jobs}

@@ -12,9 +12,10 @@ use Rattle.laws.proofs.Highest.{highest-at, highest-none}
 use Rattle.table.specs.declared.Table.{Table}
 use Rattle.table.specs.Rows.{priorityAt}
 use Rattle.run.specs.declared.State.{State}
-use Rattle.run.specs.Answers.{charged}
+use Rattle.events.specs.Answers.{charged}
 use Rattle.run.specs.Tick.{able, highestAble, choose}
-use Rattle.run.proofs.Tick.{able-room, highest-charged, one-same}
+use Rattle.run.proofs.Tick.{able-room, highest-charged}
+use Rattle.events.proofs.Answers.{one-same}
 use Rattle.promises.proofs.Accepted.{Accepted, there}
 
 module _ (t : Table) (a : Accepted t) where

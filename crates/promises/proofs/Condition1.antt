@@ -27,15 +27,18 @@ use Rattle.text.proofs.Refused.{beyond-as-it-was}
 use Rattle.verdict.specs.Verdict.{responseAt, told, verdictOf}
 use Rattle.verdict.proofs.Verdicts.{verdict-unsound, verdict-absent, verdict-told}
 use Rattle.run.specs.declared.Run.{Run}
-use Rattle.run.specs.declared.Answer.{Answer}
-use Rattle.run.specs.declared.Answer.the-variants.{Released, Ticked, No}
+use Rattle.events.specs.declared.Answer.{Answer}
+use Rattle.events.specs.declared.Answer.the-variants.{Released, Ticked, No}
 use Rattle.run.specs.State.{waitingAt, withCounts}
-use Rattle.run.specs.Answers.{noOf}
+use Rattle.events.specs.Answers.{noOf}
 use Rattle.run.specs.Release.{refused, withJob, startOf, releaseOf}
-use Rattle.run.specs.Tick.{Stepped, tickTaken, ranJob, ticked, tickOf}
+use Rattle.queues.specs.Queues.{ranJob}
+use Rattle.run.specs.Tick.{Stepped, tickTaken, ticked, tickOf}
 use Rattle.run.specs.Events.{eventOf}
-use Rattle.run.specs.Many.{Lent, LentBoth, takingNumber}
-use Rattle.run.proofs.Refused.{refused-as-it-was, Given, ReleaseCase, release-number, release-6}
+use Rattle.run.specs.Many.{Lent, LentBoth}
+use Rattle.events.specs.Answers.{takingNumber}
+use Rattle.run.proofs.Refused.{refused-as-it-was, ReleaseCase, release-number, release-6}
+use Rattle.events.proofs.Answers.{Given}
 use Rattle.run.proofs.Refused.{release-7, release-8, release-10}
 use Rattle.run.proofs.Refused.{release-13, release-taken, TickCase, tick-number, tick-9, tick-10}
 use Rattle.run.proofs.Refused.{tick-13, tick-taken}

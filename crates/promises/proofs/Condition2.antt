@@ -15,19 +15,19 @@ use Rattle.verdict.proofs.Interference.{partAt, interference-is, part-timed, pa
 use Rattle.verdict.proofs.Verdicts.{response-exactly}
 use Rattle.verdict.proofs.Verdicts.{response-for-none, misses-exactly as misses}
 use Rattle.run.specs.declared.Run.{Run}
-use Rattle.run.specs.declared.Event.{Event}
-use Rattle.run.specs.declared.Event.the-variants.{Release, Tick}
-use Rattle.run.specs.declared.TickAnswer.{TickAnswer}
-use Rattle.run.specs.declared.Answer.the-variants.{Released, Ticked}
+use Rattle.events.specs.declared.Event.{Event}
+use Rattle.events.specs.declared.Event.the-variants.{Release, Tick}
+use Rattle.events.specs.declared.TickAnswer.{TickAnswer}
+use Rattle.events.specs.declared.Answer.the-variants.{Released, Ticked}
 use Rattle.run.specs.declared.Answered.{Answered}
 use Rattle.run.specs.Sound.{sound}
-use Rattle.run.specs.Answers.{noOf}
+use Rattle.events.specs.Answers.{noOf}
 use Rattle.run.specs.Tick.{tickTaken}
 use Rattle.run.specs.Events.{eventOf, after}
 use Rattle.run.proofs.Taken.{ReleaseTaken, releaseTaken, release-ind, tick-ind}
 use Rattle.run.proofs.Sound.{sound-table, sound-state}
-use Rattle.run.proofs.Steps.{one-past}
-use Rattle.run.proofs.Tick.{one-same}
+use Rattle.events.proofs.Answers.{one-past}
+use Rattle.events.proofs.Answers.{one-same}
 use Rattle.run.proofs.Count.{jobs-balance, jobs-balance-kept}
 use Rattle.run.proofs.Kept.{waiting-taken, after-keeps}
 use Rattle.run.proofs.Refused.{release-13, tick-13, start-run}

@@ -13,10 +13,10 @@ use Rattle.text.specs.Read.{readingNumber}
 use Rattle.verdict.specs.declared.Verdict.the-variants.{Response}
 use Rattle.run.specs.declared.Run.{Run}
 use Rattle.run.specs.declared.State.{State}
-use Rattle.run.specs.declared.Event.the-variants.{Tick}
-use Rattle.run.specs.declared.Answer.{Answer}
+use Rattle.events.specs.declared.Event.the-variants.{Tick}
+use Rattle.events.specs.declared.Answer.{Answer}
 use Rattle.run.specs.declared.Answered.{Answered}
-use Rattle.run.specs.Answers.{noOf, charged}
+use Rattle.events.specs.Answers.{noOf, charged}
 use Rattle.run.specs.Release.{freshRun}
 use Rattle.run.specs.Tick.{tickOf}
 use Rattle.table.specs.Example.{example}

@@ -15,8 +15,9 @@ use Rattle.table.specs.declared.Table.{Table}
 use Rattle.table.specs.Rows.{periodAt}
 use Rattle.run.specs.declared.State.{State}
 use Rattle.run.specs.State.{elapsedAt}
-use Rattle.run.specs.Answers.{charged}
-use Rattle.run.proofs.Tick.{charged-able, able-room, charged-is}
+use Rattle.events.specs.Answers.{charged}
+use Rattle.run.proofs.Tick.{charged-able, able-room}
+use Rattle.events.proofs.Answers.{charged-is}
 use Rattle.run.specs.Found.{TakenTick}
 use Rattle.promises.specs.Bounds.{inRow, charges, largestCapacity, beginning, touched}
 use Rattle.promises.proofs.Accepted.{Accepted, there}

@@ -8,9 +8,10 @@ use Rattle.table.specs.Inner.{Sized}
 use Rattle.table.specs.Rules.{tableKeeps}
 use Rattle.text.proofs.Refused.{reading-0}
 use Rattle.text.proofs.RoundTrip.{read-keeps, read-sized}
+use Rattle.events.specs.Boxes.{afterIn}
 use Rattle.run.specs.declared.Run.{Run}
-use Rattle.run.specs.declared.Event.{Event}
-use Rattle.run.specs.Answers.{startingNumber}
+use Rattle.events.specs.declared.Event.{Event}
+use Rattle.events.specs.Answers.{startingNumber}
 use Rattle.run.specs.Release.{freshRun, startOf}
 use Rattle.run.specs.Events.{eventOf, after}
 use Rattle.run.proofs.Shape.{RunShaped, fresh-run-shaped, event-run-shaped}
@@ -26,7 +27,7 @@ use Rattle.promises.proofs.Condition2.{every-tick}
 
 -- every run that is reached is one that code holds
 pub reached-held : (r : Run) (es : List Event) → RunShaped r → RunSized (after r es)
-unfolding after
+unfolding afterIn
 reached-held r [] h = shaped-held h
 reached-held r (e ∷ es) h = reached-held (eventOf r e .run) es (event-run-shaped r e h)
 

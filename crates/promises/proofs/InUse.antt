@@ -25,18 +25,20 @@ use Rattle.table.proofs.Rules.{table-rules}
 use Rattle.text.specs.Write.{wrote}
 use Rattle.verdict.specs.Verdict.{interference, meets, responseAt, verdictOf}
 use Rattle.verdict.proofs.Interference.{interference-above}
-use Rattle.run.specs.declared.Last.{Last}
-use Rattle.run.specs.declared.Last.the-variants.{NoJob, Job}
+use Rattle.queues.specs.declared.Last.{Last}
+use Rattle.queues.specs.declared.Last.the-variants.{NoJob, Job}
+use Rattle.events.specs.Boxes.{afterIn, answersIn}
 use Rattle.run.specs.declared.Run.{Run}
-use Rattle.run.specs.declared.Event.{Event}
-use Rattle.run.specs.declared.Event.the-variants.{Release, Tick}
-use Rattle.run.specs.declared.Answer.the-variants.{Ticked}
+use Rattle.events.specs.declared.Event.{Event}
+use Rattle.events.specs.declared.Event.the-variants.{Release, Tick}
+use Rattle.events.specs.declared.Answer.the-variants.{Ticked}
 use Rattle.run.specs.declared.Answered.{Answered}
 use Rattle.run.specs.State.{waitingAt}
-use Rattle.run.specs.Sound.{soundServer, soundFront, soundTask, soundLast, soundCounts, soundState}
+use Rattle.run.specs.Sound.{soundServer, soundTask, soundLast, soundCounts, soundState}
 use Rattle.run.specs.Sound.{sound}
 use Rattle.run.specs.Release.{releaseOf}
-use Rattle.run.specs.Tick.{ranJob, tickOf}
+use Rattle.queues.specs.Queues.{ranJob}
+use Rattle.run.specs.Tick.{tickOf}
 use Rattle.run.specs.Events.{eventOf, after, answers}
 use Rattle.run.proofs.Taken.{isTask, levelTaken, hasRoom, countsOn, markTaken, releaseTaken}
 use Rattle.run.proofs.Taken.{release-cases, tick-cases}
@@ -103,7 +105,7 @@ module _ {r q : Run} (h : SameInUse r q) where
 
   task-tests : (k : ℕ) → k < r .table .ntasks →
       every (soundTask (r .table) (r .state) k) ≡ every (soundTask (q .table) (q .state) k)
-  unfolding soundTask soundFront
+  unfolding soundTask
   task-tests k l =
       let e = task-same (h .tables) k l in
       let limit = ap₂ (λ (a : Task) (m : Mode). inMode (a .limit) m .0) e (h .mode) in
@@ -230,7 +232,7 @@ module _ (r q : Run) (shape : RunShaped r) (shape′ : RunShaped q) (h : SameInU
 -- Any events.
 events-same : (r q : Run) (es : List Event) → RunShaped r → RunShaped q → SameInUse r q →
     (answers r es ≡ answers q es) × SameInUse (after r es) (after q es)
-unfolding answers after
+unfolding answersIn afterIn
 events-same r q [] z z′ h = (refl, h)
 events-same r q (e ∷ es) z z′ h =
     let a = event-same r q z z′ h e in

@@ -20,6 +20,7 @@ pub mod FromTheText
 pub mod RulesSettle
 pub mod AlarmMode
 pub mod Fits
+pub mod FrameBox
 pub mod InUse
 pub mod Dummies
 pub mod Reworded

@@ -15,7 +15,7 @@ use Rattle.table.specs.declared.Mode.the-variants.{N, D1, D2}
 use Rattle.table.specs.declared.Table.{Table}
 use Rattle.table.specs.Rows.{capacityAt}
 use Rattle.run.specs.State.{elapsedAt, waits}
-use Rattle.run.specs.Answers.{charged}
+use Rattle.events.specs.Answers.{charged}
 use Rattle.run.specs.Found.{TakenTick}
 use Rattle.promises.specs.Bounds.{inRow, charges, largestCapacity, elapsedFirst, isNormal, normal, waitsUntil}
 use Rattle.promises.proofs.Ticks.{noTick, tickAt, course}

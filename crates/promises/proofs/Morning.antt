@@ -24,28 +24,31 @@ use Rattle.table.specs.Rows.{serverAt, isTimed}
 use Rattle.text.specs.Read.{read, shown}
 use Rattle.text.proofs.Refused.{reading-0}
 use Rattle.text.proofs.RoundTrip.{read-keeps, read-sized}
+use Rattle.events.specs.Boxes.{afterIn, answersIn}
 use Rattle.run.specs.declared.State.{State}
 use Rattle.run.specs.declared.Run.{Run}
-use Rattle.run.specs.declared.Turn.{Turn}
-use Rattle.run.specs.declared.Turn.the-variants.{Run as Ran, Empty, Idle}
-use Rattle.run.specs.declared.Event.{Event}
-use Rattle.run.specs.declared.Event.the-variants.{Release, Tick}
-use Rattle.run.specs.declared.EventLine.{EventLine}
-use Rattle.run.specs.declared.EventLine.the-variants.{Of, Another}
-use Rattle.run.specs.declared.Answer.{Answer}
-use Rattle.run.specs.declared.Answer.the-variants.{Released, Ticked, No}
+use Rattle.events.specs.declared.Turn.{Turn}
+use Rattle.events.specs.declared.Turn.the-variants.{Run as Ran, Empty, Idle}
+use Rattle.events.specs.declared.Event.{Event}
+use Rattle.events.specs.declared.Event.the-variants.{Release, Tick}
+use Rattle.events.specs.declared.EventLine.{EventLine}
+use Rattle.events.specs.declared.EventLine.the-variants.{Of, Another}
+use Rattle.events.specs.declared.Answer.{Answer}
+use Rattle.events.specs.declared.Answer.the-variants.{Released, Ticked, No}
 use Rattle.run.specs.declared.Answered.{Answered}
 use Rattle.run.specs.State.{waits}
-use Rattle.run.specs.Answers.{one, noOf, charged}
+use Rattle.events.specs.Answers.{one, noOf, charged}
 use Rattle.run.specs.Release.{freshRun}
 use Rattle.run.specs.Tick.{settle, choose, tickTaken}
 use Rattle.run.specs.Events.{eventOf, after, answers}
-use Rattle.run.specs.Count.{overAll, discardedOf}
+use Rattle.events.specs.Count.{overAll}
+use Rattle.run.specs.Count.{discardedOf}
 use Rattle.run.specs.Found.{TakenTick, tickTakenSo, takenBy, takenTicks}
 use Rattle.run.proofs.Taken.{tick-ind}
 use Rattle.run.proofs.Shape.{event-table, fresh-run-shaped}
-use Rattle.run.proofs.Tick.{one-same, one-eq, one-is, charged-runs, charged-empty, answer-turn}
-use Rattle.run.proofs.Steps.{sum-one}
+use Rattle.events.proofs.Answers.{one-same, one-eq, one-is}
+use Rattle.run.proofs.Tick.{charged-runs, charged-empty, answer-turn}
+use Rattle.events.proofs.Answers.{sum-one}
 use Rattle.run.proofs.Kept.{fresh-keeps}
 use Rattle.run.proofs.Refused.{refused-as-it-was}
 use Rattle.run.proofs.Count.{jobs-balance-of, discarded-by-task}
@@ -293,7 +296,7 @@ none-taken r (Tick mark) a why q = rw q
 -- the ticks taken and the run after refused lines and then others are those of the others
 gone : (r : Run) (ls : List EventLine) (fs : List Event) → AllRefused r ls →
     (takenTicks r (eventsIn ls ++ fs) ≡ takenTicks r fs) × (after r (eventsIn ls ++ fs) ≡ after r fs)
-unfolding takenTicks after eventsIn
+unfolding takenTicks afterIn eventsIn
 gone r [] fs h = (refl, refl)
 gone r (Another ∷ ls) fs h = gone r ls fs (h .1)
 gone r (Of e ∷ ls) fs h =
@@ -321,7 +324,7 @@ refused-count-nowhere r before ls later h =
     (after-append r bs (eventsIn ls ++ fs) ∙ q .1 ∙ sym (after-append r bs fs)))
 
 pub empty-file : EmptyFile
-unfolding split closedLines eventLines eventsIn answers takenTicks after overAll discardedOf longestRow
+unfolding split closedLines eventLines eventsIn answersIn takenTicks afterIn overAll discardedOf longestRow
 empty-file t =
     record {
       servers = λ i. refl;

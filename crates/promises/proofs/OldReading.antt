@@ -39,7 +39,8 @@ use Rattle.text.specs.Line.{formTests, microsAt, serverSaid, taskSaid, saidUnle
 use Rattle.text.specs.Line.{lineOf, readLine}
 use Rattle.text.specs.Standing.{isNil, limitsOf, placed, serverBounds, taskBounds, bounds}
 use Rattle.text.specs.Standing.{serverWhole, wholes, fault, tell_at_or_, standing, grown}
-use Rattle.text.specs.Read.{ReadRows, refused, pairSaid, compared, ended, lineSaid, readFrom, read}
+use Rattle.text.specs.TableText.{readLines}
+use Rattle.text.specs.Read.{ReadRows, refused, pairSaid, compared, ended, lineSaid, tableText, read}
 use Rattle.text.proofs.Refused.{standing-0}
 use Rattle.promises.specs.OldReading.{OldLine, oldTick, oldServer, oldTask, oldMalformed}
 use Rattle.promises.specs.OldReading.{oldAllFit, oldHas, oldFormed, oldLineOf, oldReadLine}
@@ -234,8 +235,8 @@ line-said-before n Kept r o e = e
 line-said-before n (Broken why field) r o e = rw (broken-before why field)
 
 from-before : (n : ℕ) (a : Rows) (ps : List (List ℕ)) →
-    asBefore (readFrom n a ps) ≡ oldReadFrom n a ps
-unfolding readFrom oldReadFrom
+    asBefore (readLines tableText n a ps) ≡ oldReadFrom n a ps
+unfolding readLines oldReadFrom
 from-before n a [] = refl
 from-before n a (l ∷ []) = unless-before (isNil l) MalformedWhy n _ _ (ended-before n a)
 from-before n a (l ∷ (m ∷ ms)) =

@@ -11,16 +11,17 @@ use Rattle.table.specs.Pairs.{laterEqual, firstPair}
 use Rattle.text.specs.Words.{tickWord, serverWord, taskWord, eventWord, timedWord, loWord, miWord, hiWord}
 use Rattle.text.specs.Line.{tickForm, serverForm, taskForm, fieldTests, formTests, lineBy, lineOf, readLine}
 use Rattle.text.specs.Standing.{placed, serverBounds, taskBounds, bounds, serverWhole, wholes, fault, standing, grown}
-use Rattle.text.specs.Read.{compared, ended, readFrom, read, shown}
+use Rattle.text.specs.Read.{compared, ended, read, shown}
 use Rattle.verdict.specs.Verdict.{verdictOf, responseAt, meets, interference}
+use Rattle.events.specs.Boxes.{afterIn, answersIn}
 use Rattle.run.specs.State.{waits, someWaits}
-use Rattle.run.specs.Sound.{sound, soundState, soundServer, soundTask, soundFront, soundLast, soundCounts}
+use Rattle.run.specs.Sound.{sound, soundState, soundServer, soundTask, soundLast, soundCounts}
 use Rattle.run.specs.Release.{startOf, releaseOf}
 use Rattle.run.specs.Tick.{judge, step1, drops, discards, step2, step3, step4, settle, able, highestAble, highestTask, choose}
 use Rattle.run.specs.Tick.{advance, tickTaken, tickOf}
 use Rattle.run.specs.Events.{after, answers}
 use Rattle.lines.specs.EventLine.{releaseForm, tickForm as tickLineForm, eventSaid, eventLine, closedLines, eventLines}
-use Rattle.lines.specs.Night.{answerLines, nightLines, night}
+use Rattle.lines.specs.Night.{answerLines, nightLines, night, answerLinesIn}
 use Rattle.table.specs.Example.{example}
 use Rattle.promises.specs.Example.{two}
 
@@ -29,10 +30,10 @@ unfolding
     every least firstFailed firstOf up allBelow anyBelow sumBelow highest anew areDigits numberForm isNumber worthFrom digitsIn
     digits split join closed same tableOf tableKeeps keeps serverKeeps taskKeeps taskFault taskStands differ laterEqual
     firstPair tickWord serverWord taskWord eventWord timedWord loWord miWord hiWord tickForm serverForm
-    taskForm fieldTests formTests lineBy lineOf readLine placed serverBounds taskBounds bounds serverWhole wholes fault standing grown compared ended readFrom read shown verdictOf responseAt meets interference waits someWaits
-    sound soundState soundServer soundTask soundFront soundLast soundCounts startOf releaseOf judge step1
-    drops discards step2 step3 step4 settle able highestAble highestTask choose advance tickTaken tickOf after
-    answers
+    taskForm fieldTests formTests lineBy lineOf readLine placed serverBounds taskBounds bounds serverWhole wholes fault standing grown compared ended read shown verdictOf responseAt meets interference waits someWaits
+    sound soundState soundServer soundTask soundLast soundCounts startOf releaseOf judge step1
+    drops discards step2 step3 step4 settle able highestAble highestTask choose advance tickTaken tickOf afterIn
+    answersIn
     releaseForm tickLineForm eventSaid eventLine closedLines eventLines
-    answerLines nightLines night example two
+    answerLinesIn nightLines night example two
 opened = tt

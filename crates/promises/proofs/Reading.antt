@@ -26,8 +26,9 @@ use Rattle.table.proofs.Pairs.{Paired, is-pair, pair-is}
 use Rattle.text.specs.declared.Reading.the-variants.{Taken}
 use Rattle.text.specs.Line.{noLine, readLine}
 use Rattle.text.specs.Standing.{isNil}
+use Rattle.text.specs.TableText.{readLines}
 use Rattle.text.specs.Read.{ReadRows, refused}
-use Rattle.text.specs.Read.{readingNumber, readingValues, compared, ended, readFrom, read, shown}
+use Rattle.text.specs.Read.{readingNumber, readingValues, compared, ended, tableText, read, shown}
 use Rattle.text.specs.Allowed.{grownBy}
 use Rattle.text.specs.Write.{linesOf}
 use Rattle.text.proofs.Ticks.{rounded}
@@ -35,8 +36,8 @@ use Rattle.text.proofs.Refused.{standing-0}
 use Rattle.text.proofs.Standing.{not-nil}
 use Rattle.text.proofs.Allowed.{told}
 use Rattle.text.proofs.RoundTrip.{nothing-said}
-use Rattle.text.proofs.ReadFrom.{standingAt, first-told, all-told, all-kept, FirstBroken}
-use Rattle.text.proofs.ReadFrom.{first-or-all}
+use Rattle.text.proofs.TableText.{standingAt, first-told, all-told, all-kept, FirstBroken}
+use Rattle.text.proofs.TableText.{first-or-all}
 use Rattle.promises.specs.Condition1.{closedLines, bytesAt, lineAt, endLine, rowsAbove}
 use Rattle.promises.specs.Condition1.{standingOf, faultAt, faultField, StandAbove, Complete}
 use Rattle.promises.specs.Condition1.{isServer, isTask, NoneEqual, ReadCase, tooLong}
@@ -79,28 +80,28 @@ module _ (text : List ℕ) where
 
   -- parts 0 to n - 1 stand
   abbrev AllKept : ℕ → Type 0
-  AllKept n = (j : ℕ) → j < n → standingAt 1 noRows parts j ≡ Kept
+  AllKept n = (j : ℕ) → j < n → standingAt tableText 1 noRows parts j ≡ Kept
 
   -- what stands after the last line feed
   abbrev rest : List ℕ
   rest = bytesAt text (endLine text)
 
   -- line j + 1 is part j
-  standing-at : (j : ℕ) → standingOf text (suc j) ≡ standingAt 1 noRows parts j
+  standing-at : (j : ℕ) → standingOf text (suc j) ≡ standingAt tableText 1 noRows parts j
   standing-at j =
       let e : 1 + j ≡ suc j = omega arith in
       let f : suc j - 1 ≡ j = omega arith in
       rw (e, f)
 
-  fault-at : (j : ℕ) → faultAt text (suc j) ≡ standingNumber (standingAt 1 noRows parts j)
+  fault-at : (j : ℕ) → faultAt text (suc j) ≡ standingNumber (standingAt tableText 1 noRows parts j)
   fault-at j = ap standingNumber (standing-at j)
 
-  field-at : (j : ℕ) → faultField text (suc j) ≡ standingField (standingAt 1 noRows parts j)
+  field-at : (j : ℕ) → faultField text (suc j) ≡ standingField (standingAt tableText 1 noRows parts j)
   field-at j = ap standingField (standing-at j)
 
   stand-kept : (n : ℕ) → StandAbove text (suc n) → AllKept n
   stand-kept n s j l =
-      standing-0 (standingAt 1 noRows parts j) .0
+      standing-0 (standingAt tableText 1 noRows parts j) .0
       (sym (fault-at j) ∙ s (suc j) (omega arith) (omega arith))
 
   kept-stand : (n : ℕ) → AllKept n → StandAbove text (suc n)
@@ -110,7 +111,7 @@ module _ (text : List ℕ) where
   end-stand : StandAbove text (endLine text) → AllKept many
   end-stand s = stand-kept many (λ m h l. s m h (omega arith))
 
-  short-read : length text ≤ 16384 → read text ≡ readFrom 1 noRows parts
+  short-read : length text ≤ 16384 → read text ≡ readLines tableText 1 noRows parts
   unfolding read
   short-read h = rw (le-leb (length text) 16384 h)
 
@@ -120,7 +121,7 @@ module _ (text : List ℕ) where
       read text ≡ (if b then ended (endLine text) rows else refused MalformedWhy (endLine text) 0)
   read-end h s b e =
       let z : 1 + many ≡ many + 1 = omega arith in
-      short-read h ∙ all-told 1 noRows parts many one-more (end-stand s) ∙ rw (← e, z, end)
+      short-read h ∙ all-told tableText 1 noRows parts many one-more (end-stand s) ∙ rw (← e, z, end)
 
   -- A complete text: its lines are those of its rows, but for rounding, so lines of equal priority
   -- are rows of equal priority.
@@ -144,7 +145,7 @@ module _ (text : List ℕ) where
       ∙ take-suc parts many [] (omega (arith, one-more))
       ∙ rw e in
       let q : getD parts m [] ≡ getD ls m [] = ap (λ ps. getD ps m []) p ∙ empty-last ls m in
-      let k = all-kept 1 noRows parts many one-more (end-stand (c .stand)) in
+      let k = all-kept tableText 1 noRows parts many one-more (end-stand (c .stand)) in
       let d = told (map readLine ls) k (rw end at (c .task)) in
       rw (z, q, d .lines)
       (sym (List·getD-map (rounded t) (map readLine ls) m noLine ∙
@@ -181,7 +182,7 @@ module _ (text : List ℕ) where
 
   -- a first part that does not stand is told, with its line and its field
   first-fault-told : (n : ℕ) → length text ≤ 16384 → n < many → StandAbove text (suc n) →
-      (s : Standing) → standingAt 1 noRows parts n ≡ s → 1 ≤ standingNumber s →
+      (s : Standing) → standingAt tableText 1 noRows parts n ≡ s → 1 ≤ standingNumber s →
       (Comes (read text) (standingNumber s) (suc n ∷ standingField s ∷ []))
       × (read text .rows ≡ noRows)
   first-fault-told n h l a Kept e b = absurd (omega arith)
@@ -189,7 +190,7 @@ module _ (text : List ℕ) where
       let z : 1 + n ≡ suc n = omega arith in
       let q : read text ≡ refused why (1 + n) field =
       short-read h
-      ∙ first-told 1 noRows parts n why field (omega (arith, one-more)) (stand-kept n a) e in
+      ∙ first-told tableText 1 noRows parts n why field (omega (arith, one-more)) (stand-kept n a) e in
       rw (q, z) ((refl, refl), refl)
 
   -- each case gives its number and values; the text is taken, or its rows do not come back
@@ -202,7 +203,7 @@ module _ (text : List ℕ) where
   case-told k values (firstFault zero h l c a b) = absurd (omega arith)
   case-told k values (firstFault (suc n) h l c a b) =
       let e = fault-at n in
-      let r = first-fault-told n h (omega arith) a (standingAt 1 noRows parts n) refl (rw e at b) in
+      let r = first-fault-told n h (omega arith) a (standingAt tableText 1 noRows parts n) refl (rw e at b) in
       rw (e, field-at n) (r .0, inr (rw e at b, r .1))
   case-told k values (unclosed h a b) =
       rw (read-end h a false (not-nil rest b)) ((refl, refl), inr (omega arith, refl))
@@ -249,13 +250,13 @@ module _ (text : List ℕ) where
 
   -- a closed line that does not stand has a number
   some-number : (n : ℕ) (why : Refusal) (field : ℕ) →
-      standingAt 1 noRows parts n ≡ Broken why field → 1 ≤ faultAt text (suc n)
+      standingAt tableText 1 noRows parts n ≡ Broken why field → 1 ≤ faultAt text (suc n)
   some-number n why field e = go (le-or-lt 1 (faultAt text (suc n)))
     where
       go : (1 ≤ faultAt text (suc n)) ⊎ (faultAt text (suc n) < 1) → 1 ≤ faultAt text (suc n)
       go (inl h) = h
       go (inr h) =
-          let k = standing-0 (standingAt 1 noRows parts n) .0 (sym (fault-at n) ∙ omega arith) in
+          let k = standing-0 (standingAt tableText 1 noRows parts n) .0 (sym (fault-at n) ∙ omega arith) in
           let z : _≡_ {A = ℕ} 0 1 = cc in
           absurd (omega arith)
 
@@ -275,7 +276,7 @@ module _ (text : List ℕ) where
           let c : Complete text = record { short = h; stand = a; closes = omega arith; task = t } in
           pair-case c (pairOfServers (rows .servers)) (pair-is servers serverPriority)
 
-      line-case : length text ≤ 16384 → FirstBroken 1 noRows parts many ⊎ AllKept many → SomeCase
+      line-case : length text ≤ 16384 → FirstBroken tableText 1 noRows parts many ⊎ AllKept many → SomeCase
       line-case h (inl f) =
           let n = f .place in (
             faultAt text (suc n),
@@ -289,7 +290,7 @@ module _ (text : List ℕ) where
 
       length-case : (length text ≤ 16384) ⊎ (16384 < length text) → SomeCase
       length-case (inr h) = (2, 0 ∷ 0 ∷ [], tooLong h)
-      length-case (inl h) = line-case h (first-or-all 1 noRows parts many)
+      length-case (inl h) = line-case h (first-or-all tableText 1 noRows parts many)
 
 pub each-read : EachRead
 unfolding shown

@@ -21,21 +21,21 @@ use Rattle.verdict.specs.declared.Fits.the-variants.{Yes, Miss}
 use Rattle.verdict.specs.Verdict.{interference, verdictOf}
 use Rattle.verdict.specs.Fits.{verdictsOf, isMiss, leastRow, fromVerdicts, fitsOf}
 use Rattle.verdict.proofs.Cases.{three}
-use Rattle.run.specs.declared.Last.the-variants.{Job}
+use Rattle.queues.specs.declared.Last.the-variants.{Job}
 use Rattle.run.specs.declared.Run.{Run}
-use Rattle.run.specs.declared.Turn.the-variants.{Run as Ran}
-use Rattle.run.specs.declared.Left.the-variants.{Nobody, Done, Cut}
-use Rattle.run.specs.declared.Event.{Event}
-use Rattle.run.specs.declared.Event.the-variants.{Release, Tick}
-use Rattle.run.specs.declared.TickAnswer.{TickAnswer}
-use Rattle.run.specs.declared.Answer.{Answer}
-use Rattle.run.specs.declared.Answer.the-variants.{Ticked}
+use Rattle.events.specs.declared.Turn.the-variants.{Run as Ran}
+use Rattle.events.specs.declared.Left.the-variants.{Nobody, Done, Cut}
+use Rattle.events.specs.declared.Event.{Event}
+use Rattle.events.specs.declared.Event.the-variants.{Release, Tick}
+use Rattle.events.specs.declared.TickAnswer.{TickAnswer}
+use Rattle.events.specs.declared.Answer.{Answer}
+use Rattle.events.specs.declared.Answer.the-variants.{Ticked}
 use Rattle.run.specs.State.{waitingAt, runsAt}
 use Rattle.run.specs.Release.{freshRun}
 use Rattle.run.specs.Tick.{tickOf}
 use Rattle.run.specs.Events.{after, answers}
 use Rattle.run.specs.Found.{takenTicks}
-use Rattle.run.specs.Count.{overAll, releasedIn, finishedIn, cutIn}
+use Rattle.events.specs.Count.{overAll, releasedIn, finishedIn, cutIn}
 use Rattle.table.specs.Example.{byMode, example}
 use Rattle.run.proofs.Shape.{fresh-run-shaped}
 use Rattle.run.proofs.Cases.{tight, levels}

@@ -34,10 +34,10 @@ use Rattle.text.specs.Line.{readLine}
 use Rattle.text.specs.Write.{taskTimesWhole, allTimesWhole, timesWhole}
 use Rattle.text.proofs.Refused.{standing-0}
 use Rattle.text.proofs.RoundTrip.{nothing-said}
-use Rattle.run.specs.declared.Last.{Last}
-use Rattle.run.specs.declared.Last.the-variants.{NoJob, Job}
+use Rattle.queues.specs.declared.Last.{Last}
+use Rattle.queues.specs.declared.Last.the-variants.{NoJob, Job}
 use Rattle.run.specs.declared.State.{State}
-use Rattle.run.specs.Sound.{isLast}
+use Rattle.queues.specs.Queues.{isLast}
 use Rattle.run.proofs.Sound.{TaskSound, JobSound, LastSound, sound-exactly}
 use Rattle.promises.specs.Condition1.{lineAt, isTask, TimesWhole, All, TaskFits, Gives}
 use Rattle.promises.specs.Condition1.{ServerRow, TaskRow, TableExactly, SoundTask, SoundLast}

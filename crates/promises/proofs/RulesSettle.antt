@@ -18,25 +18,25 @@ use Rattle.table.specs.declared.Table.{Table}
 use Rattle.units.specs.declared.Ticks.{Ticks}
 use Rattle.table.specs.Rows.{Rows, rowsOf, noServer, noTask, serverAt, taskAt, periodAt, inMode}
 use Rattle.table.specs.Rows.{limitAt}
-use Rattle.run.specs.declared.Last.{Last}
-use Rattle.run.specs.declared.Last.the-variants.{NoJob, Job}
+use Rattle.queues.specs.declared.Last.{Last}
+use Rattle.queues.specs.declared.Last.the-variants.{NoJob, Job}
 use Rattle.run.specs.declared.State.{State}
 use Rattle.run.specs.declared.Run.{Run}
-use Rattle.run.specs.declared.Turn.{Turn}
-use Rattle.run.specs.declared.Turn.the-variants.{Run as Ran, Empty, Idle}
+use Rattle.events.specs.declared.Turn.{Turn}
+use Rattle.events.specs.declared.Turn.the-variants.{Run as Ran, Empty, Idle}
 use Rattle.run.specs.declared.Judged.{Judged}
-use Rattle.run.specs.declared.Left.{Left}
-use Rattle.run.specs.declared.Left.the-variants.{Nobody, Done, Cut}
-use Rattle.run.specs.declared.TickAnswer.{TickAnswer}
+use Rattle.events.specs.declared.Left.{Left}
+use Rattle.events.specs.declared.Left.the-variants.{Nobody, Done, Cut}
+use Rattle.events.specs.declared.TickAnswer.{TickAnswer}
 use Rattle.run.specs.State.{usedAt, elapsedAt, waitingAt, runsAt, withMode}
 use Rattle.run.specs.Sound.{sound}
-use Rattle.run.specs.Answers.{charged, ran, finishedBy, cutBy}
-use Rattle.run.specs.Count.{anyFinished, anyCut}
+use Rattle.events.specs.Answers.{charged, ran, finishedBy, cutBy}
+use Rattle.events.specs.Count.{anyFinished, anyCut}
 use Rattle.run.specs.Tick.{height, countsAs, raises, judge, drops}
 use Rattle.run.proofs.Judge.{height-at-most, Enough, enough-raised}
 use Rattle.run.proofs.Sound.{LastSound, sound-state}
-use Rattle.run.proofs.Steps.{same-or-not, one-here}
-use Rattle.run.proofs.Tick.{one-is, one-eq, charged-is}
+use Rattle.events.proofs.Answers.{same-or-not, one-here}
+use Rattle.events.proofs.Answers.{one-is, one-eq, charged-is}
 use Rattle.promises.specs.Condition2.{OneTick, OnTheWay, Judging, stays, rises}
 use Rattle.promises.specs.Condition2.{is-cut, table, old, new, Ends, Discarded}
 use Rattle.promises.specs.Condition2.{Waits, Able, Highest, HighestTask, ByTheRules, leaves}

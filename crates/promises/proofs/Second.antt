@@ -27,7 +27,7 @@ use Rattle.verdict.specs.Verdict.{demand, demandAt, interference}
 use Rattle.verdict.proofs.Verdicts.{LeastResponse}
 use Rattle.run.specs.declared.State.{State}
 use Rattle.run.specs.State.{usedAt, elapsedAt, waits, fresh}
-use Rattle.run.specs.Answers.{charged}
+use Rattle.events.specs.Answers.{charged}
 use Rattle.run.specs.Tick.{able}
 use Rattle.run.proofs.Tick.{timed-able, waiting-able}
 use Rattle.run.specs.Found.{TakenTick}

@@ -15,9 +15,9 @@ use Rattle.table.specs.Rows.{serverAt, periodAt, capacityAt, isTimed, tableOf}
 use Rattle.table.specs.Rules.{tableKeeps}
 use Rattle.verdict.specs.declared.Verdict.the-variants.{Response}
 use Rattle.verdict.specs.Verdict.{verdictOf}
-use Rattle.run.specs.declared.Turn.the-variants.{Run as Ran, Empty}
-use Rattle.run.specs.declared.Event.{Event}
-use Rattle.run.specs.declared.Event.the-variants.{Release, Tick}
+use Rattle.events.specs.declared.Turn.the-variants.{Run as Ran, Empty}
+use Rattle.events.specs.declared.Event.{Event}
+use Rattle.events.specs.declared.Event.the-variants.{Release, Tick}
 use Rattle.run.specs.Release.{freshRun}
 use Rattle.table.specs.Example.{byMode, server, task, rows, example}
 use Rattle.run.specs.Found.{TakenTick, takenTicks}

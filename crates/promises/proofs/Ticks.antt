@@ -21,19 +21,20 @@ use Rattle.table.specs.declared.Table.{Table}
 use Rattle.table.specs.Rows.{periodAt, capacityAt}
 use Rattle.run.specs.declared.State.{State}
 use Rattle.run.specs.declared.Run.{Run}
-use Rattle.run.specs.declared.Event.{Event}
-use Rattle.run.specs.declared.Event.the-variants.{Release, Tick}
-use Rattle.run.specs.declared.Turn.the-variants.{Idle}
-use Rattle.run.specs.declared.Left.the-variants.{Nobody}
+use Rattle.events.specs.declared.Event.{Event}
+use Rattle.events.specs.declared.Event.the-variants.{Release, Tick}
+use Rattle.events.specs.declared.Turn.the-variants.{Idle}
+use Rattle.events.specs.declared.Left.the-variants.{Nobody}
 use Rattle.run.specs.declared.Answered.{Answered}
 use Rattle.run.specs.State.{usedAt, elapsedAt, fresh}
-use Rattle.run.specs.Answers.{charged}
+use Rattle.events.specs.Answers.{charged}
 use Rattle.run.specs.Release.{withJob}
 use Rattle.run.specs.Tick.{settle, choose, tickTaken}
 use Rattle.run.proofs.Taken.{release-ind, tick-ind, releaseTaken, tickedTaken}
 use Rattle.run.proofs.Shape.{Shaped, job-shaped, tick-shaped}
 use Rattle.run.proofs.Tick.{used-settled, elapsed-settled, used-after, elapsed-after, answer-mode, answer-turn, charged-able}
-use Rattle.run.proofs.Tick.{able-room, charged-is, charged-le}
+use Rattle.run.proofs.Tick.{able-room}
+use Rattle.events.proofs.Answers.{charged-is, charged-le}
 use Rattle.run.specs.Found.{TakenTick, tickTakenSo, takenBy, takenTicks}
 
 -- what stands where no tick was taken

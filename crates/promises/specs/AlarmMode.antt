@@ -15,14 +15,14 @@ use Rattle.table.specs.declared.Mode.the-variants.{N, D1, D2}
 use Rattle.table.specs.declared.Table.{Table}
 use Rattle.table.specs.Inner.{Sized}
 use Rattle.table.specs.Rows.{taskAt, limitAt}
-use Rattle.run.specs.declared.Last.the-variants.{Job}
+use Rattle.queues.specs.declared.Last.the-variants.{Job}
 use Rattle.run.specs.declared.Run.{Run}
-use Rattle.run.specs.declared.Event.{Event}
-use Rattle.run.specs.declared.Event.the-variants.{Release, Tick}
-use Rattle.run.specs.declared.Left.{Left}
-use Rattle.run.specs.declared.Left.the-variants.{Done, Cut}
-use Rattle.run.specs.declared.Answer.{Answer}
-use Rattle.run.specs.declared.Answer.the-variants.{Released, Ticked, No}
+use Rattle.events.specs.declared.Event.{Event}
+use Rattle.events.specs.declared.Event.the-variants.{Release, Tick}
+use Rattle.events.specs.declared.Left.{Left}
+use Rattle.events.specs.declared.Left.the-variants.{Done, Cut}
+use Rattle.events.specs.declared.Answer.{Answer}
+use Rattle.events.specs.declared.Answer.the-variants.{Released, Ticked, No}
 use Rattle.run.specs.State.{waitingAt, runsAt}
 use Rattle.run.specs.Release.{freshRun}
 use Rattle.run.specs.Tick.{height, countsAs}

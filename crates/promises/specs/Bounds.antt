@@ -16,12 +16,12 @@ use Rattle.table.specs.Rules.{tableKeeps}
 use Rattle.verdict.specs.declared.Verdict.the-variants.{Response}
 use Rattle.verdict.specs.Verdict.{verdictOf}
 use Rattle.run.specs.declared.Run.{Run}
-use Rattle.run.specs.declared.Event.{Event}
-use Rattle.run.specs.declared.TickAnswer.{TickAnswer}
-use Rattle.run.specs.declared.Answer.{Answer}
-use Rattle.run.specs.declared.Answer.the-variants.{Released, Ticked, No}
+use Rattle.events.specs.declared.Event.{Event}
+use Rattle.events.specs.declared.TickAnswer.{TickAnswer}
+use Rattle.events.specs.declared.Answer.{Answer}
+use Rattle.events.specs.declared.Answer.the-variants.{Released, Ticked, No}
 use Rattle.run.specs.State.{elapsedAt, waits}
-use Rattle.run.specs.Answers.{charged}
+use Rattle.events.specs.Answers.{charged}
 use Rattle.run.specs.Release.{freshRun}
 use Rattle.run.specs.Events.{answers}
 use Rattle.run.specs.Found.{TakenTick, takenTicks}

@@ -51,19 +51,21 @@ use Rattle.text.specs.Write.{Wrote, write, writingNumber, writingValues, wrote}
 use Rattle.verdict.specs.declared.Verdict.{Verdict}
 use Rattle.verdict.specs.declared.Verdict.the-variants.{Response, Misses, No}
 use Rattle.verdict.specs.Verdict.{verdictOf}
-use Rattle.run.specs.declared.Last.the-variants.{NoJob, Job}
+use Rattle.queues.specs.declared.Last.the-variants.{NoJob, Job}
 use Rattle.run.specs.declared.State.{State}
 use Rattle.run.specs.declared.Run.{Run}
 use Rattle.run.specs.declared.Begun.{Begun}
-use Rattle.run.specs.declared.Event.{Event}
-use Rattle.run.specs.declared.Event.the-variants.{Release, Tick}
+use Rattle.events.specs.declared.Event.{Event}
+use Rattle.events.specs.declared.Event.the-variants.{Release, Tick}
 use Rattle.run.specs.State.{usedAt, elapsedAt, waitingAt, runsAt, withCounts}
 use Rattle.run.specs.Sound.{sound}
-use Rattle.run.specs.Answers.{noOf, startingNumber}
+use Rattle.events.specs.Answers.{noOf}
+use Rattle.events.specs.Answers.{startingNumber}
 use Rattle.run.specs.Release.{freshRun, startOf}
 use Rattle.run.specs.Events.{eventOf}
-use Rattle.run.specs.Values.{linesSaid}
-use Rattle.run.specs.Many.{takingNumber, Lent, manyOf, LentBoth, findOf}
+use Rattle.events.specs.Values.{linesSaid}
+use Rattle.events.specs.Answers.{takingNumber}
+use Rattle.run.specs.Many.{Lent, manyOf, LentBoth, findOf}
 use Rattle.lines.specs.declared.Held.{Held}
 use Rattle.lines.specs.Cutting.{CutInto, cutOf}
 use Rattle.lines.specs.Print.{linesLent, PrintedInto, printOf}

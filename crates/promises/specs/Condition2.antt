@@ -21,25 +21,25 @@ use Rattle.table.specs.Rules.{tableKeeps}
 use Rattle.table.specs.Inner.{Sized}
 use Rattle.verdict.specs.declared.Verdict.the-variants.{Response, Misses}
 use Rattle.verdict.specs.Verdict.{interference, verdictOf}
-use Rattle.run.specs.declared.Last.{Last}
-use Rattle.run.specs.declared.Last.the-variants.{NoJob, Job}
+use Rattle.queues.specs.declared.Last.{Last}
+use Rattle.queues.specs.declared.Last.the-variants.{NoJob, Job}
 use Rattle.run.specs.declared.State.{State}
 use Rattle.run.specs.declared.Run.{Run}
-use Rattle.run.specs.declared.Event.{Event}
-use Rattle.run.specs.declared.Turn.the-variants.{Run as Ran, Empty, Idle}
-use Rattle.run.specs.declared.Left.{Left}
-use Rattle.run.specs.declared.Left.the-variants.{Nobody, Done, Cut}
-use Rattle.run.specs.declared.TickAnswer.{TickAnswer}
-use Rattle.run.specs.declared.Answer.{Answer}
-use Rattle.run.specs.declared.Answer.the-variants.{Released, Ticked}
+use Rattle.events.specs.declared.Event.{Event}
+use Rattle.events.specs.declared.Turn.the-variants.{Run as Ran, Empty, Idle}
+use Rattle.events.specs.declared.Left.{Left}
+use Rattle.events.specs.declared.Left.the-variants.{Nobody, Done, Cut}
+use Rattle.events.specs.declared.TickAnswer.{TickAnswer}
+use Rattle.events.specs.declared.Answer.{Answer}
+use Rattle.events.specs.declared.Answer.the-variants.{Released, Ticked}
 use Rattle.run.specs.State.{usedAt, elapsedAt, waitingAt, runsAt}
 use Rattle.run.specs.Sound.{sound}
-use Rattle.run.specs.Answers.{noOf, ran, finishedBy, cutBy}
+use Rattle.events.specs.Answers.{noOf, ran, finishedBy, cutBy}
 use Rattle.run.specs.Release.{freshRun, startOf, releaseOf}
 use Rattle.run.specs.Tick.{height, countsAs, raised, tickOf}
 use Rattle.run.specs.Events.{eventOf, after, answers}
-use Rattle.run.specs.Count.{anyFinished, anyCut, releasedIn, finishedIn, cutIn, discardedIn}
-use Rattle.run.specs.Count.{releasedOf, finishedOf, cutOf}
+use Rattle.events.specs.Count.{anyFinished, anyCut, releasedIn, finishedIn, cutIn, discardedIn}
+use Rattle.events.specs.Count.{releasedOf, finishedOf, cutOf}
 
 -- a run that code holds: its arrays have 32 and 64 rows
 pub record RunSized (r : Run) : Type 0 where

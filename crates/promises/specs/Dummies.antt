@@ -17,15 +17,15 @@ use Rattle.verdict.specs.declared.Verdict.{Verdict}
 use Rattle.verdict.specs.declared.Verdict.the-variants.{Misses}
 use Rattle.verdict.specs.Verdict.{verdictOf}
 use Rattle.run.specs.declared.Run.{Run}
-use Rattle.run.specs.declared.Turn.the-variants.{Idle}
-use Rattle.run.specs.declared.TickAnswer.{TickAnswer}
-use Rattle.run.specs.declared.Answer.the-variants.{Ticked}
+use Rattle.events.specs.declared.Turn.the-variants.{Idle}
+use Rattle.events.specs.declared.TickAnswer.{TickAnswer}
+use Rattle.events.specs.declared.Answer.the-variants.{Ticked}
 use Rattle.run.specs.declared.Answered.{Answered}
 use Rattle.run.specs.State.{usedAt, waitingAt}
-use Rattle.run.specs.Answers.{noOf, charged}
+use Rattle.events.specs.Answers.{noOf, charged}
 use Rattle.run.specs.Release.{releaseOf}
 use Rattle.run.specs.Tick.{tickOf}
-use Rattle.run.specs.Count.{anyFinished, anyCut}
+use Rattle.events.specs.Count.{anyFinished, anyCut}
 use Rattle.promises.specs.Condition2.{RunSized}
 
 -- The contracts.

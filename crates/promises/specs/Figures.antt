@@ -13,9 +13,9 @@ use Rattle.table.specs.declared.Table.{Table}
 use Rattle.verdict.specs.declared.Verdict.{Verdict}
 use Rattle.verdict.specs.declared.Verdict.the-variants.{Response, Misses}
 use Rattle.verdict.specs.Verdict.{verdictOf}
-use Rattle.run.specs.declared.Event.{Event}
-use Rattle.run.specs.declared.Event.the-variants.{Release, Tick}
-use Rattle.run.specs.Answers.{noOf}
+use Rattle.events.specs.declared.Event.{Event}
+use Rattle.events.specs.declared.Event.the-variants.{Release, Tick}
+use Rattle.events.specs.Answers.{noOf}
 use Rattle.run.specs.Release.{freshRun}
 use Rattle.run.specs.Events.{answers}
 use Rattle.lines.specs.Night.{night}

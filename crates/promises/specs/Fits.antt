@@ -19,7 +19,7 @@ use Rattle.verdict.specs.declared.Fits.the-variants.{Yes, Miss}
 use Rattle.verdict.specs.Verdict.{verdictOf}
 use Rattle.verdict.specs.Fits.{verdictsOf, fromVerdicts, fitsOf, fitsNumber, fitsValues}
 use Rattle.run.specs.declared.Run.{Run}
-use Rattle.run.specs.declared.Event.{Event}
+use Rattle.events.specs.declared.Event.{Event}
 use Rattle.run.specs.Sound.{sound}
 use Rattle.run.specs.Release.{freshRun, startOf}
 use Rattle.run.specs.Found.{TakenTick, takenTicks}

@@ -15,14 +15,15 @@ use Rattle.text.specs.Read.{readingNumber, read, shown}
 use Rattle.verdict.specs.declared.Verdict.the-variants.{Response}
 use Rattle.verdict.specs.Verdict.{verdictOf}
 use Rattle.run.specs.declared.Run.{Run}
-use Rattle.run.specs.declared.Event.{Event}
-use Rattle.run.specs.declared.Answer.the-variants.{Ticked}
+use Rattle.events.specs.declared.Event.{Event}
+use Rattle.events.specs.declared.Answer.the-variants.{Ticked}
 use Rattle.run.specs.State.{waitingAt}
-use Rattle.run.specs.Answers.{noOf, startingNumber}
+use Rattle.events.specs.Answers.{noOf}
+use Rattle.events.specs.Answers.{startingNumber}
 use Rattle.run.specs.Release.{startOf}
 use Rattle.run.specs.Tick.{tickOf}
 use Rattle.run.specs.Events.{eventOf, after, answers}
-use Rattle.run.specs.Count.{releasedIn, finishedIn, cutIn, discardedIn}
+use Rattle.events.specs.Count.{releasedIn, finishedIn, cutIn, discardedIn}
 use Rattle.run.specs.Found.{takenTicks}
 use Rattle.promises.specs.Bounds.{inRow, charges, largestCapacity, touched}
 use Rattle.promises.specs.Bounds.{normal, wholePeriod, waitsUntil}

@@ -11,7 +11,7 @@ use Rattle.table.specs.Rules.{tableKeeps}
 use Rattle.text.specs.Write.{wrote}
 use Rattle.verdict.specs.Verdict.{verdictOf}
 use Rattle.run.specs.declared.Run.{Run}
-use Rattle.run.specs.declared.Event.{Event}
+use Rattle.events.specs.declared.Event.{Event}
 use Rattle.run.specs.State.{usedAt, elapsedAt, waitingAt, runsAt}
 use Rattle.run.specs.Sound.{sound}
 use Rattle.run.specs.Events.{after, answers}

@@ -5,6 +5,7 @@ pub mod Condition1
 pub mod Condition2
 pub mod AlarmMode
 pub mod Fits
+pub mod FrameBox
 pub mod FromTheText
 pub mod Dummies
 pub mod InUse

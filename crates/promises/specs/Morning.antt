@@ -16,17 +16,17 @@ use Rattle.table.specs.Rules.{tableKeeps}
 use Rattle.table.specs.Inner.{Sized}
 use Rattle.text.specs.Read.{readingNumber, read, shown}
 use Rattle.run.specs.declared.Run.{Run}
-use Rattle.run.specs.declared.Turn.{Turn}
-use Rattle.run.specs.declared.Turn.the-variants.{Run as Ran, Empty, Idle}
-use Rattle.run.specs.declared.Event.{Event}
-use Rattle.run.specs.declared.EventLine.{EventLine}
-use Rattle.run.specs.declared.EventLine.the-variants.{Of, Another}
-use Rattle.run.specs.declared.Answer.{Answer}
+use Rattle.events.specs.declared.Turn.{Turn}
+use Rattle.events.specs.declared.Turn.the-variants.{Run as Ran, Empty, Idle}
+use Rattle.events.specs.declared.Event.{Event}
+use Rattle.events.specs.declared.EventLine.{EventLine}
+use Rattle.events.specs.declared.EventLine.the-variants.{Of, Another}
+use Rattle.events.specs.declared.Answer.{Answer}
 use Rattle.run.specs.State.{waits}
-use Rattle.run.specs.Answers.{noOf, charged}
+use Rattle.events.specs.Answers.{noOf, charged}
 use Rattle.run.specs.Release.{freshRun}
 use Rattle.run.specs.Events.{eventOf, after, answers}
-use Rattle.run.specs.Count.{overAll, releasedOf, discardedIn}
+use Rattle.events.specs.Count.{overAll, releasedOf, discardedIn}
 use Rattle.run.specs.Many.{afterLine, afterLines}
 use Rattle.run.specs.Found.{TakenTick, takenTicks}
 use Rattle.lines.specs.EventLine.{eventLines}

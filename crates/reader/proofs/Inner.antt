@@ -35,7 +35,7 @@ use Rattle.text.proofs.Standing.{standing-keeps, task-keeps, no-form}
 use Rattle.text.proofs.RoundTrip.{table-rows, table-sized}
 
 -- a row put where there is room
-padded-more : {A : Type 0} (n : ℕ) (z x : A) (xs : List A) → length xs < n →
+pub padded-more : {A : Type 0} (n : ℕ) (z x : A) (xs : List A) → length xs < n →
     set (padded n z xs) (length xs) x ≡ padded n z (xs ++ (x ∷ []))
 padded-more n z x xs h =
     go

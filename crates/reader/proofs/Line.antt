@@ -26,11 +26,12 @@ use Rattle.text.specs.declared.Word.the-variants.{ATick, AServer, ATask, Unknow
 use Rattle.text.specs.declared.Line.{Line}
 use Rattle.text.specs.declared.Line.the-variants.{OfTick, OfServer, OfTask, Malformed}
 use Rattle.text.specs.Words.{tickWord, serverWord, taskWord, timedWord, miWord, hiWord, kindOf, levelOf}
-use Rattle.text.specs.Line.{aNumber, aKind, aLevel, Form, tickForm, serverForm, taskForm, formTests, microsAt, serverSaid, taskSaid, leading, wordOf, saidUnless, formed, lineBy, lineOf, readLine}
+use Rattle.text.specs.Line.{aNumber, aKind, aLevel, Form, tickForm, serverForm, taskForm, formTests, microsAt, serverSaid, taskSaid, leading, wordOf, unlessWrong, formedOr, formed, lineBy, lineOf, readLine}
 use Rattle.text.proofs.Lines.{no-fields}
 use Rattle.reader.specs.declared.fields.Fields.{Fields}
 use Rattle.reader.specs.Inner.Fields.{valueOf, kindAt, levelAt, lineEnd, noFields, passed}
-use Rattle.reader.specs.Inner.Lines.{lineRead, readBehind, firstRead}
+use Rattle.reader.specs.declared.forms.WordRead.{WordRead}
+use Rattle.reader.specs.Inner.Lines.{firstWord, lineRead, readBehind, firstRead}
 use Rattle.reader.proofs.Inner.Fields.{pass-ends, pass-wrong, pass-values}
 
 -- a word by its place
@@ -64,22 +65,34 @@ module _ (form : Form) (text : List ℕ) (from : ℕ) (r : Fields) (read : ReadA
       ∙ ap (λ (x : Fields). x .wrong) (sym read)
       ∙ e
 
+  -- of a line of any kind of table: where it ends, and what it says where a field is wrong
+  pub line-ends : r .end ≡ lineEnd text from
+  line-ends = ap (λ (x : Fields). x .end) read ∙ pass-ends form (fieldsFrom text from) (lineEnd text from)
+
+  pub form-wrong : {L : Type 0} (malformed : ℕ → L) (said : L) (field : ℕ) → r .wrong ≡ At field →
+      malformed field ≡ formedOr malformed form (fieldsFrom text from) said
+  form-wrong malformed said field e = ap (λ x. unlessWrong x malformed said) (sym (first-wrong (At field) e))
+
   pub lined : (l : Line) (said : Line) → l ≡ said → record { line = l; end = r .end } ≡ lineRead text from said
-  lined l said e =
-      rw (e, ap (λ (x : Fields). x .end) read ∙ pass-ends form (fieldsFrom text from) (lineEnd text from))
+  lined l said e = rw (e, line-ends)
 
   pub form-not : (said : Line) (field : ℕ) → r .wrong ≡ At field →
       record { line = Malformed (wordOf said) field; end = r .end } ≡
       lineRead text from (formed form (fieldsFrom text from) said)
   form-not said field e =
       lined (Malformed (wordOf said) field) (formed form (fieldsFrom text from) said)
-      (ap (λ x. saidUnless x said) (sym (first-wrong (At field) e)))
+      (form-wrong (Malformed (wordOf said)) said field e)
 
   module _ (none : r .wrong ≡ Nothing) where
-    form-has : (said : Line) → said ≡ formed form (fieldsFrom text from) said
-    form-has said = ap (λ x. saidUnless x said) (sym (first-wrong Nothing none))
+    -- and where none is
+    pub form-right : {L : Type 0} (malformed : ℕ → L) (said : L) →
+        said ≡ formedOr malformed form (fieldsFrom text from) said
+    form-right malformed said = ap (λ x. unlessWrong x malformed said) (sym (first-wrong Nothing none))
 
-    value-read : length (form .fields) ≤ 7 → (i : ℕ) → i < form .least →
+    form-has : (said : Line) → said ≡ formed form (fieldsFrom text from) said
+    form-has said = form-right (Malformed (wordOf said)) said
+
+    pub value-read : length (form .fields) ≤ 7 → (i : ℕ) → i < form .least →
         getD (r .values) i 0 ≡ valueOf (getD (form .fields) i aNumber) (getD (fieldsFrom text from) i [])
     value-read l i h =
         ap (λ (x : Fields). getD (x .values) i 0) read
@@ -182,7 +195,7 @@ unfolding same tickWord serverWord taskWord
 leads-task = refl
 
 -- a text begins with a word and its tab
-abbrev ledBy : List ℕ → List ℕ → Bool
+abbrev pub ledBy : List ℕ → List ℕ → Bool
 ledBy w text = same (take (length w + 1) text) (w ++ (tab ∷ []))
 
 -- Then the word is the first field of the line there, and the fields after it are those from behind
@@ -218,7 +231,7 @@ module _ (text w : List ℕ) (is-high : high w ≡ true) (stands : ledBy w text 
       ∙ ap (take (length w)) front
       ∙ take-append-seam w (tab ∷ [])
 
-  parts : (fieldsFrom text 0 ≡ w ∷ fieldsFrom text (length w + 1))
+  pub parts : (fieldsFrom text 0 ≡ w ∷ fieldsFrom text (length w + 1))
       × (lineEnd text 0 ≡ lineEnd text (length w + 1))
   parts =
       let more = ap (λ (x : End). x .more) ends in
@@ -232,7 +245,7 @@ module _ (text w : List ℕ) (is-high : high w ≡ true) (stands : ledBy w text 
 
 -- where none of the words stands so, the line has no form
 module _ (text : List ℕ) where
-  other-word : (w : List ℕ) → ledBy w text ≡ false → fieldEnd text 0 .more ≡ true →
+  pub other-word : (w : List ℕ) → ledBy w text ≡ false → fieldEnd text 0 .more ≡ true →
       same (firstField text 0) w ≡ false
   unfolding fieldEnd
   other-word w none more =
@@ -264,14 +277,18 @@ module _ (text : List ℕ) where
           )
       go false e = sym (ap lineOf (field-last text 0 e .0) ∙ no-fields (firstField text 0))
 
-  pub no-form-read : (e : End) (word : Word) (end : ℕ) → e ≡ fieldEnd text 0 → word ≡ leading (take (e .at) text) →
+  pub word-read : (e : End) (word : Word) (end : ℕ) → e ≡ fieldEnd text 0 → word ≡ leading (take (e .at) text) →
       Finds lineFeed text (e .at) end → end ≤ length text →
-      ledBy serverWord text ≡ false → ledBy taskWord text ≡ false → ledBy tickWord text ≡ false →
-      record { line = Malformed word 0; end = end } ≡ firstRead text
-  no-form-read e word end q r f h s k t =
+      record { word = word; end = end } ≡ firstWord text
+  word-read e word end q r f h =
       let z : e .at - 0 ≡ e .at = omega arith in
       let taken : take (e .at) text ≡ firstField text 0 = rw (← q, z) at (end-taken text 0) in
       let within : e .at ≤ length text =
       omega (arith, ap (λ (x : End). x .at) q, end-within text 0 (omega arith)) in
       let ends = line-found text (e .at) end f within h in
-      rw (r, taken, no-form s k t, sym ends, ← (rw (← q) at (line-on-from text 0)))
+      rw (r, taken, sym ends, ← (rw (← q) at (line-on-from text 0)))
+
+  pub no-form-read : (w : WordRead) → w ≡ firstWord text →
+      ledBy serverWord text ≡ false → ledBy taskWord text ≡ false → ledBy tickWord text ≡ false →
+      record { line = Malformed (w .word) 0; end = w .end } ≡ firstRead text
+  no-form-read w e s k t = rw (e, no-form s k t)

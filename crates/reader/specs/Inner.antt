@@ -3,6 +3,7 @@
 -- else calls them.
 pub mod Fields
 pub mod Lines
+pub mod Frame
 use mathlib.Core.Path.{_≡_}
 use mathlib.Core.Bool.{Bool, true, false, not, _&&_}
 use mathlib.Core.List.{[], _∷_}

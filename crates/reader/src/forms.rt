@@ -21,14 +21,14 @@ ghost use Rattle.decimal.specs.Lines.{same};
 ghost use Rattle.text.specs.declared.Word.the-variants.{ATick, AServer, ATask};
 ghost use Rattle.text.specs.Line.{leading};
 ghost use Rattle.reader.specs.Inner.Fields.{kindAt, levelAt};
-ghost use Rattle.reader.specs.Inner.Lines.{readBehind, firstRead};
+ghost use Rattle.reader.specs.Inner.Lines.{firstWord, readBehind, firstRead};
 
 // Where the fields begin behind a leading word and its tab.
-const BEHIND_TICK: usize = 5;
+pub const BEHIND_TICK: usize = 5;
 
 const BEHIND_SERVER: usize = 7;
 
-const BEHIND_TASK: usize = 5;
+pub const BEHIND_TASK: usize = 5;
 
 // What a line says, and where it ends.
 pub struct LineRead {
@@ -144,13 +144,30 @@ fn leading_word(w: &[u8]) -> Word
     Word::Unknown
 }
 
-fn begins(text: &[u8], word: &[u8]) -> bool
+pub(crate) fn begins(text: &[u8], word: &[u8]) -> bool
     ensures { λ r. ⌜ r ≡ same (take (length (now (word .entry))) (now (text .entry))) (now (word .entry)) ⌝ }
 {
     if text.len() < word.len() {
         return false;
     }
     decimal::is_same(&text[..word.len()], word)
+}
+
+// The leading word of a line, and where the line ends.
+pub struct WordRead {
+    pub word: Word,
+    pub end: usize,
+}
+
+// Of the line at the front of some text.
+pub(crate) fn read_word(text: &[u8]) -> WordRead
+    ensures { λ r. ⌜ r ≡ firstWord (now (text .entry)) ⌝ }
+{
+    let first = decimal::field_end(text, 0);
+    let e = first.at;
+    let word = leading_word(&text[..e]);
+    let end = bytes::scan::find(text, e, text.len(), LINE_FEED);
+    WordRead { word, end }
 }
 
 // The line at the front of some text. Its leading word, with the tab after it, is compared where it
@@ -168,10 +185,8 @@ pub(crate) fn read_line(text: &[u8]) -> LineRead
     if begins(text, b"tick\t") {
         return tick_line(text, BEHIND_TICK);
     }
-    let first = decimal::field_end(text, 0);
-    let e = first.at;
-    let word = leading_word(&text[..e]);
-    let end = bytes::scan::find(text, e, text.len(), LINE_FEED);
+    let w = read_word(text);
+    let word = w.word;
     let line = Line::Malformed(word, THE_LINE);
-    LineRead { line, end }
+    LineRead { line, end: w.end }
 }

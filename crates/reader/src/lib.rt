@@ -3,6 +3,7 @@
 
 mod fields;
 mod forms;
+pub mod frame;
 mod rows;
 mod rules;
 

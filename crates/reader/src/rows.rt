@@ -21,7 +21,7 @@ ghost use Rattle.reader.specs.Inner.{FewTicks};
 // "each rounded up to a tick". A time may be of more ticks than 32 bits hold: its bound is judged
 // before, in microseconds (rules::task_bounds), and only what is at most 100,000 ticks is rounded
 // up.
-fn round_up(u: Micros, tick: Micros) -> Ticks
+pub(crate) fn round_up(u: Micros, tick: Micros) -> Ticks
     requires { ⌜ (0 < tick .0) × (up (u .0) (tick .0) ≤ 100000) ⌝ }
     ensures { λ r. ⌜ r ≡ roundedUp (tick .0) u ⌝ }
 {

@@ -114,7 +114,7 @@ fn word_of(l: Line) -> Word
 }
 
 // Lines of each kind, in their place.
-fn tick_standing(u: Micros) -> Standing
+pub(crate) fn tick_standing(u: Micros) -> Standing
     ensures { λ r. ⌜ r ≡ tickStanding u ⌝ }
 {
     if !laws::is_within(1, 10000, u.0) {

@@ -1,55 +1,32 @@
-// What the library answers to a block, as the format prints it.
+// What the library answers to a table block, as the format prints it.
 
 use crate::block::Block;
 use crate::block::Operation;
 use crate::part;
-use decimal::put::put_all;
-use decimal::put::put_byte;
-use decimal::put::put_number;
-use run::Answer;
+use crate::said::LONGEST_SAID;
+use crate::said::put_line;
+use crate::said::put_queues;
+use crate::said::say_line;
+use crate::said::say_no;
+use crate::said::shown;
+use events::Answer;
+use events::Starting;
+use events::TickAnswer;
+use events::Told;
+use queues::Last;
 use run::Answered;
 use run::Begun;
-use run::Last;
-use run::Left;
 use run::Run;
-use run::Starting;
 use run::State;
-use run::TickAnswer;
-use run::Turn;
 use table::Mode;
-use table::Refusal;
 use table::SERVERS;
-use table::TASKS;
 use table::Table;
 use text::Writing;
 use verdict::Fits;
 use verdict::Verdict;
-ghost use Prim.Native.Nat.{_≤_};
 
-// No answer is longer: 98 lines, or the text of a table.
-const LONGEST_SAID: usize = 16384;
 // What a room holds before it is lent.
 const BEFORE: u8 = b'~';
-
-// A word and then numbers, as a line.
-fn put_line(word: &[u8], numbers: &[u64], room: &mut [u8], at: usize) -> usize {
-    let mut k = put_all(word, room, at);
-    for i in 0..numbers.len() {
-        k = put_byte(decimal::TAB, room, k);
-        k = put_number(numbers[i], room, k);
-    }
-    put_byte(decimal::LINE_FEED, room, k)
-}
-
-fn say_line(word: &[u8], numbers: &[u64]) -> bool {
-    let mut room = [0u8; LONGEST_SAID];
-    let n = put_line(word, numbers, &mut room, 0);
-    files::write_first(&room, n)
-}
-
-fn say_no(why: Refusal) -> bool {
-    say_line(b"no", &[table::number_of(why)])
-}
 
 fn say_verdict(t: Table, row: usize, m: Mode) -> bool {
     match verdict::verdict_of(t, row, m) {
@@ -105,13 +82,6 @@ fn say_written(t: Table, size: usize) -> bool {
     }
 }
 
-// How many of a state's rows are shown: those in use.
-fn shown(n: usize, most: usize) -> usize
-    ensures { λ r. ⌜ r ≤ most ⌝ }
-{
-    if n <= most { n } else { most }
-}
-
 fn put_head(s: State, room: &mut [u8], at: usize) -> usize {
     let m = s.mode;
     let mode = table::mode_value(m);
@@ -128,10 +98,6 @@ fn put_budget(used: u32, elapsed: u32, room: &mut [u8], at: usize) -> usize {
     put_line(b"budget", &[used as u64, elapsed as u64], room, at)
 }
 
-fn put_queue(waiting: u8, runs: u32, room: &mut [u8], at: usize) -> usize {
-    put_line(b"queue", &[waiting as u64, runs as u64], room, at)
-}
-
 fn put_budgets(s: State, n: usize, room: &mut [u8], at: usize) -> usize {
     let mut k = at;
     for i in 0..shown(n, SERVERS) {
@@ -140,85 +106,25 @@ fn put_budgets(s: State, n: usize, room: &mut [u8], at: usize) -> usize {
     k
 }
 
-fn put_queues(s: State, n: usize, room: &mut [u8], at: usize) -> usize {
-    let mut k = at;
-    for i in 0..shown(n, TASKS) {
-        k = put_queue(s.waiting[i], s.runs[i], room, k);
-    }
-    k
-}
-
 // After the line of what was taken, the next state.
 fn say_state(word: &[u8], numbers: &[u64], r: Run) -> bool {
     let t = r.table;
     let s = r.state;
+    let waiting = s.waiting;
+    let runs = s.runs;
     let mut room = [0u8; LONGEST_SAID];
     let k = put_line(word, numbers, &mut room, 0);
     let k = put_head(s, &mut room, k);
     let k = put_budgets(s, t.nservers, &mut room, k);
-    let k = put_queues(s, t.ntasks, &mut room, k);
+    let k = put_queues(waiting, runs, t.ntasks, &mut room, k);
     files::write_first(&room, k)
 }
 
-fn what_of(turn: Turn) -> u64 {
-    match turn {
-        Turn::Run { server: _, task: _ } => 2,
-        Turn::Empty { server: _ } => 1,
-        Turn::Idle => 0,
-    }
-}
-
-fn server_of(turn: Turn) -> u64 {
-    match turn {
-        Turn::Run { server, task: _ } => server as u64,
-        Turn::Empty { server } => server as u64,
-        Turn::Idle => 0,
-    }
-}
-
-fn task_of(turn: Turn) -> u64 {
-    match turn {
-        Turn::Run { server: _, task } => task as u64,
-        Turn::Empty { server: _ } => 0,
-        Turn::Idle => 0,
-    }
-}
-
-fn how_of(left: Left) -> u64 {
-    match left {
-        Left::Nobody => 0,
-        Left::Done(_) => 1,
-        Left::Cut(_) => 2,
-    }
-}
-
-fn left_task(left: Left) -> u64 {
-    match left {
-        Left::Nobody => 0,
-        Left::Done(k) => k as u64,
-        Left::Cut(k) => k as u64,
-    }
-}
-
+// What is told of a tick as plain numbers is the eight of the format, behind one that says that it is
+// a tick.
 fn say_tick(a: TickAnswer, r: Run) -> bool {
-    let m = a.mode;
-    let mode = table::mode_value(m);
-    let turn = a.turn;
-    let left = a.left;
-    say_state(
-        b"tick",
-        &[
-            a.tick.0 as u64,
-            mode,
-            what_of(turn),
-            server_of(turn),
-            task_of(turn),
-            how_of(left),
-            left_task(left),
-            a.discarded as u64,
-        ],
-        r,
-    )
+    let values = events::told_values(Told::Ticked(a));
+    say_state(b"tick", &values[1..], r)
 }
 
 fn say_begun(b: Begun) -> bool {

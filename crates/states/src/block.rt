@@ -1,11 +1,14 @@
-// A block: a table and a state, filled line by line, and the operation that ends it.
+// A block: a table and a state, filled line by line, and the operation that ends it. The lines of a
+// frame block are in frame.rt.
 
 use crate::line::BYTE;
 use crate::line::Fields;
 use crate::line::LARGE;
 use crate::line::WIDE;
 use crate::line::is_line;
-use run::Last;
+use framerun::FrameRun;
+use framerun::FrameState;
+use queues::Last;
 use run::State;
 use table::ByMode;
 use table::Kind;
@@ -19,12 +22,15 @@ use table::Task;
 use units::Micros;
 use units::Ticks;
 
-// The rows given so far are the first servers, tasks, budgets and queues.
+// The rows given so far are the first servers, tasks, budgets and queues. A frame block has its table
+// and state in `frame`, a table block in `table` and `state`; one that is not open is empty.
 pub struct Block {
     pub open: bool,
+    pub framed: bool,
     pub broken: bool,
     pub table: Table,
     pub state: State,
+    pub frame: FrameRun,
     pub servers: usize,
     pub tasks: usize,
     pub budgets: usize,
@@ -42,11 +48,11 @@ pub enum Operation {
     Nothing,
 }
 
-fn narrow(v: u64) -> u32 {
+pub(crate) fn narrow(v: u64) -> u32 {
     if v <= WIDE { v as u32 } else { 0 }
 }
 
-fn byte(v: u64) -> u8 {
+pub(crate) fn byte(v: u64) -> u8 {
     if v <= BYTE { v as u8 } else { 0 }
 }
 
@@ -65,7 +71,7 @@ fn level_of(v: u64) -> Level {
     }
 }
 
-fn last_of(any: u64, row: u64) -> Last {
+pub(crate) fn last_of(any: u64, row: u64) -> Last {
     match any {
         0 => Last::NoJob,
         _ => Last::Job(row as usize),
@@ -151,21 +157,33 @@ fn no_state() -> State {
     }
 }
 
-fn block_of(open: bool, table: Table) -> Block {
+// The same of a frame block, and without a `box` line.
+fn no_frame() -> FrameRun {
+    FrameRun {
+        table: frametable::no_frame_table(),
+        state: FrameState {
+            waiting: [0; TASKS],
+            runs: [0; TASKS],
+            last: Last::NoJob,
+            ticks: Ticks(0),
+            accepted: 0,
+        },
+    }
+}
+
+pub(crate) fn empty() -> Block {
     Block {
-        open,
+        open: false,
+        framed: false,
         broken: false,
-        table,
+        table: table_of(0, 0, 0),
         state: no_state(),
+        frame: no_frame(),
         servers: 0,
         tasks: 0,
         budgets: 0,
         queues: 0,
     }
-}
-
-pub(crate) fn empty() -> Block {
-    block_of(false, table_of(0, 0, 0))
 }
 
 pub(crate) fn broken(b: Block) -> Block {
@@ -188,19 +206,10 @@ pub(crate) fn is_asked(asked: Operation) -> bool {
     }
 }
 
-// The operation that a line names, if it does.
-pub(crate) fn operation_in(word: &[u8], f: Fields) -> Operation {
+// An operation that a table block alone may end with.
+fn table_operation_in(word: &[u8], f: Fields) -> Operation {
     let v = f.values;
     let first = v[1];
-    if is_line(word, f, b"fresh", &[]) {
-        return Operation::Fresh;
-    }
-    if is_line(word, f, b"release", &[LARGE]) {
-        return Operation::Release(first as usize);
-    }
-    if is_line(word, f, b"tick", &[1]) {
-        return Operation::Tick(first == 1);
-    }
     if is_line(word, f, b"verdict", &[LARGE, 2]) {
         return Operation::Verdict(first as usize, table::mode_said(v[2]));
     }
@@ -216,12 +225,33 @@ pub(crate) fn operation_in(word: &[u8], f: Fields) -> Operation {
     Operation::Nothing
 }
 
-fn open_table(b: Block, f: Fields) -> Block {
+// The operation that a line names, if it does, in a frame block or another.
+pub(crate) fn operation_in(framed: bool, word: &[u8], f: Fields) -> Operation {
     let v = f.values;
-    if b.open {
-        return broken(b);
+    let first = v[1];
+    if is_line(word, f, b"fresh", &[]) {
+        return Operation::Fresh;
     }
-    block_of(true, table_of(v[1], v[2] as usize, v[3] as usize))
+    if is_line(word, f, b"release", &[LARGE]) {
+        return Operation::Release(first as usize);
+    }
+    if is_line(word, f, b"tick", &[1]) {
+        return Operation::Tick(first == 1);
+    }
+    if framed {
+        return Operation::Nothing;
+    }
+    table_operation_in(word, f)
+}
+
+pub(crate) fn open_table(b: Block, f: Fields) -> Block {
+    let v = f.values;
+    let table = table_of(v[1], v[2] as usize, v[3] as usize);
+    Block {
+        open: true,
+        table,
+        ..b
+    }
 }
 
 fn add_server(b: Block, f: Fields) -> Block {
@@ -297,14 +327,8 @@ fn add_queue(b: Block, f: Fields) -> Block {
     }
 }
 
-// A line that is no operation. "A block begins with its `table` line."
+// A line of a table block that is no operation, but its first.
 pub(crate) fn take_row(b: Block, word: &[u8], f: Fields) -> Block {
-    if is_line(word, f, b"table", &[WIDE, WIDE, WIDE]) {
-        return open_table(b, f);
-    }
-    if !b.open {
-        return broken(b);
-    }
     if is_line(word, f, b"server", &[BYTE, 1, BYTE, WIDE, WIDE, WIDE, WIDE]) {
         return add_server(b, f);
     }

@@ -6,7 +6,7 @@ ghost use Prim.Native.Nat.{_≤_};
 ghost use lib.ListN.{length};
 
 // The greatest number that a field of the format may hold: 32 bits, or 8 where the table and the
-// state hold no more.
+// state of a table block hold no more.
 pub const WIDE: u64 = 4294967295;
 
 pub const BYTE: u64 = 255;

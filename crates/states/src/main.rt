@@ -3,10 +3,17 @@
 
 mod answer;
 mod block;
+mod frame;
+mod frameanswer;
 mod line;
 mod part;
+mod said;
 
 use crate::block::Block;
+use crate::block::Operation;
+use crate::line::Fields;
+use crate::line::WIDE;
+use crate::line::is_line;
 use libc::STDERR_FILENO;
 
 // A line of the format has at most some 120 bytes.
@@ -25,6 +32,36 @@ fn say(what: &[u8], line: &[u8]) {
     io::write_all(STDERR_FILENO, b"\n");
 }
 
+// "A block begins with its `table` line", or with its `frame` line.
+fn open_block(b: Block, word: &[u8], f: Fields) -> Block {
+    if is_line(word, f, b"table", &[WIDE, WIDE, WIDE]) {
+        return block::open_table(b, f);
+    }
+    if is_line(word, f, b"frame", &[WIDE, WIDE]) {
+        return frame::open_frame(b, f);
+    }
+    block::broken(b)
+}
+
+// A line that is no operation. "The two kinds do not mix."
+fn take_row(b: Block, word: &[u8], f: Fields) -> Block {
+    if !b.open {
+        return open_block(b, word, f);
+    }
+    if b.framed {
+        return frame::take_row(b, word, f);
+    }
+    block::take_row(b, word, f)
+}
+
+fn say_answer(b: Block, asked: Operation) -> bool {
+    let r = b.frame;
+    if b.framed {
+        return frameanswer::say_answer(r, asked);
+    }
+    answer::say_answer(b, asked)
+}
+
 // A line, without its line feed.
 fn take_line(b: Block, line: &[u8]) -> Block {
     if block::is_passed_over(line) {
@@ -32,19 +69,19 @@ fn take_line(b: Block, line: &[u8]) -> Block {
     }
     let word = line::word_of(line);
     let f = line::fields_of(line);
-    let asked = block::operation_in(word, f);
+    let asked = block::operation_in(b.framed, word, f);
     if !block::is_asked(asked) {
-        let taken = block::take_row(b, word, f);
+        let taken = take_row(b, word, f);
         if taken.broken {
             say(b"not in the format: ", line);
         }
         return taken;
     }
     if !b.open {
-        say(b"no table before: ", line);
+        say(b"no block before: ", line);
         return block::broken(b);
     }
-    if !answer::say_answer(b, asked) {
+    if !say_answer(b, asked) {
         return block::broken(b);
     }
     block::empty()

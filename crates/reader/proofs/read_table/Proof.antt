@@ -16,13 +16,16 @@ use Rattle.table.specs.Rows.{noRows, rowsOf, tableOf}
 use Rattle.text.specs.declared.Line.{Line}
 use Rattle.text.specs.Line.{readLine}
 use Rattle.text.specs.Standing.{standing, grown}
-use Rattle.text.specs.Read.{readFrom, shown}
+use Rattle.text.specs.TableText.{readLines}
+use Rattle.text.specs.Read.{tableText, read, shown}
+use Rattle.text.proofs.TableText.{text-long, text-short}
+use Rattle.text.proofs.RoundTrip.{table-rows}
 use Rattle.reader.specs.Inner.{Above}
 use Rattle.reader.proofs.Inner.{ServerGrows, TaskGrows, server-grows, task-grows, above-next}
 use Rattle.reader.proofs.Inner.{put-tick, put-server, put-task, put-none}
 use Rattle.reader.proofs.Standing.{named-below, standing-by}
-use Rattle.reader.proofs.Read.{read-long, read-short, starts, starts-from}
-use Rattle.reader.proofs.Read.{line-lent, from-unclosed, from-end, from-broken, from-kept}
+use Rattle.reader.proofs.Read.{starts, starts-from, line-lent}
+use Rattle.reader.proofs.TableText.{from-unclosed, from-end, from-broken, from-kept}
 use Rattle.reader.proofs.read_table.Statement.{statement}
 use Rattle.reader.proofs.read_table.Tie as tie
 
@@ -31,7 +34,8 @@ Inv-loop text t₀ at₀ n₀ t at n =
     (at ≤ length text)
     × (n ≤ at + 1)
     × Above n t
-    × (readFrom 1 noRows (split lineFeed text) ≡ readFrom n (rowsOf t) (split lineFeed (drop at text)))
+    × (readLines tableText 1 noRows (split lineFeed text) ≡
+    readLines tableText n (rowsOf t) (split lineFeed (drop at text)))
 
 abbrev μ-loop : tie.MeasureT-loop
 μ-loop text t₀ at₀ n₀ t at n = length text - at
@@ -40,9 +44,10 @@ abbrev textOf : tie.At-loop Inv-loop μ-loop → List ℕ
 textOf c = c .before .before .before .before .args .text .now
 
 returns : tie.Need-returns Inv-loop μ-loop
+unfolding read
 returns c =
     let s = c .before .before .before .args .text .now in
-    c .refuse .ensures ∙ ap shown (read-long s (c .before .if1 .taken))
+    c .refuse .ensures ∙ ap shown (text-long tableText s (c .before .if1 .taken))
 
 loop-holds : tie.Need-loop-holds Inv-loop μ-loop
 loop-holds c = (
@@ -59,15 +64,16 @@ end-requires : tie.Need-end-requires Inv-loop μ-loop
 end-requires c κs = c .before .loop .inv .2
 
 returns-2 : tie.Need-returns-2 Inv-loop μ-loop
+unfolding read
 returns-2 c =
     let b = c .before .before in
     let l = b .loop in
     let s = textOf b in
     c .end .ensures
     ∙ ap shown
-    (from-end (l .n) (rowsOf (l .t)) s (l .at) (omega arith)
+    (from-end tableText (l .n) (rowsOf (l .t)) s (l .at) (omega arith)
     ∙ sym (l .inv .3)
-    ∙ read-short s (b .before .before .if1 .left))
+    ∙ text-short tableText s (b .before .before .if1 .left))
 
 -- where line n was read, and the loop's head above it
 abbrev line : tie.After-line-standing Inv-loop μ-loop → tie.After-read-line Inv-loop μ-loop
@@ -108,6 +114,7 @@ add-e c =
     record { fits = omega (arith, ends r .1, head r .before .before .if1 .left) }
 
 returns-3 : tie.Need-returns-3 Inv-loop μ-loop
+unfolding read
 returns-3 c =
     let r = c .before .before .before in
     let b = head r in
@@ -115,10 +122,10 @@ returns-3 c =
     let s = textOf b in
     c .refuse2 .ensures
     ∙ ap shown
-    (from-unclosed (l .n) (rowsOf (l .t)) s (l .at) (l .at + r .read-line .result .end) (ends r .0)
+    (from-unclosed tableText (l .n) (rowsOf (l .t)) s (l .at) (l .at + r .read-line .result .end) (ends r .0)
     (omega (arith, c .before .if3 .taken)) (lt-of-le-ne (l .inv .0) (r .before .before .if2 .left))
     ∙ sym (l .inv .3)
-    ∙ read-short s (b .before .before .if1 .left))
+    ∙ text-short tableText s (b .before .before .if1 .left))
 
 -- the rows that the line names are read where there are rows
 named : (c : tie.After-named-rows Inv-loop μ-loop) →
@@ -156,6 +163,7 @@ stands c =
     (i .named-rows .ensures)
 
 returns-4 : tie.Need-returns-4 Inv-loop μ-loop
+unfolding read
 returns-4 c =
     let told = c .before .before .standing .given in
     let j = c .before .before .before .before in
@@ -165,11 +173,11 @@ returns-4 c =
     let s = textOf b in
     c .refuse3 .ensures
     ∙ ap shown
-    (from-broken (l .n) (rowsOf (l .t)) s (l .at) (l .at + r .read-line .result .end) (ends r .0)
+    (from-broken tableText (l .n) (rowsOf (l .t)) s (l .at) (l .at + r .read-line .result .end) (ends r .0)
     (r .read-line .result .line) (told .0 .0) (told .0 .1 .0)
     (closed (j .before .before .before .before .before)) (said r .0) (sym (stands j) ∙ told .1)
     ∙ sym (l .inv .3)
-    ∙ read-short s (b .before .before .if1 .left))
+    ∙ text-short tableText s (b .before .before .if1 .left))
 
 -- the line is kept, whatever it is
 kept : (c : tie.After-enum-told Inv-loop μ-loop) (x : Line) →
@@ -283,8 +291,9 @@ loop-again c =
       omega arith,
       subst (Above (l .n + 1)) (sym (put c)) (above-next (l .n) (l .t) x (l .inv .2) k),
       l .inv .3
-          ∙ from-kept (l .n) (rowsOf (l .t)) (textOf b) (l .at) (l .at + r .read-line .result .end)
-          (ends r .0) x (c .match2 .t) e (said r .0) k (put c),
+          ∙ from-kept tableText (l .n) (rowsOf (l .t)) (textOf b) (l .at) (l .at + r .read-line .result .end)
+          (ends r .0) x (rowsOf (c .match2 .t)) e (said r .0) k
+          (ap rowsOf (put c) ∙ table-rows (grown (rowsOf (l .t)) x)),
     )
 
 pub read-table-spec : {M : Type 1} → statement M

@@ -1,15 +1,9 @@
 -- `reader::forms::read_line` meets its contract: the words are compared in turn, and the one that
 -- stands there, with its tab, tells the form. Assumes nothing.
-use mathlib.Core.Path.{refl, sym, ap, _∙_}
-use mathlib.Core.List.{List}
-use Prim.Native.Nat.{ℕ, _≤_}
+use mathlib.Core.Path.{refl, sym, _∙_}
 use native.Mathlib.Omega.{arith}
 use borrow.Author.Needs.{needs}
-use lib.ListN.{length}
-use lib.Seq.{length-take-le}
-use Rattle.decimal.specs.declared.End.{End}
 use Rattle.decimal.proofs.Lines.{high}
-use Rattle.decimal.proofs.Inner.Fields.{end-within}
 use Rattle.text.specs.declared.Word.the-variants.{ATick, AServer, ATask}
 use Rattle.text.specs.Words.{tickWord, serverWord, taskWord}
 use Rattle.reader.proofs.Line.{leads-tick, leads-server, leads-task, long, line-led, no-form-read}
@@ -64,29 +58,13 @@ returns-3 c =
     c .tick-line .ensures
     ∙ line-led (a .args .text .now) tickWord refl (sym (b .begins3 .ensures) ∙ t .if3 .taken) ATick leads-tick
 
--- the first field lies within the text
-abbrev textAt : tie.After-field-end → List ℕ
-textAt c = c .before .before .before .before .before .before .before .before .before .before .before .args .text .now
-
-lies : (c : tie.After-field-end) → c .field-end .result .at ≤ length (textAt c)
-lies c =
-    omega
-    (arith, ap (λ (x : End). x .at) (c .field-end .ensures), end-within (textAt c) 0 (omega arith))
-
-word-taken : tie.Need-slice-aggregate-leading-word
-word-taken c =
-    let f = c .before in
-    sym (length-take-le (f .field-end .result .at) (textAt f) (lies f))
-
 returns-4 : tie.Need-returns-4
 unfolding serverWord taskWord tickWord
 returns-4 c =
-    let f = c .before .before .before in
-    let t = f .before in
+    let t = c .before in
     let k = t .before .before .before in
     let s = k .before .before .before in
-    no-form-read (textAt f) (f .field-end .result) (c .before .leading-word .result) (c .find .result)
-    (f .field-end .ensures) (c .before .leading-word .ensures) (c .find .ensures .0) (c .find .ensures .1)
+    no-form-read (s .before .before .before .before .args .text .now) (c .read-word .result) (c .read-word .ensures)
     (sym (s .before .begins .ensures) ∙ s .if1 .left)
     (sym (k .before .begins2 .ensures) ∙ k .if2 .left)
     (sym (t .before .begins3 .ensures) ∙ t .if3 .left)
@@ -96,4 +74,4 @@ read-line-spec =
     tie.close
     (tie.spec (λ c. refl) (search needs) server-line-requires returns (λ c. refl) (search needs)
     task-line-requires returns-2 (λ c. refl) (search needs) tick-line-requires returns-3
-    (search needs) word-taken (search needs) (λ c κs. (lies (c .before .before), omega arith)) returns-4)
+    (λ c κs. tt) returns-4)

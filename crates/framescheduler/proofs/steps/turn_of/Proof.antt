@@ -1,0 +1,13 @@
+-- `framescheduler::steps::turn_of` meets its contract. Assumes nothing.
+use borrow.Author.Needs.{needs}
+use Rattle.framescheduler.proofs.steps.turn_of.Statement.{statement}
+use Rattle.framescheduler.proofs.steps.turn_of.Tie as tie
+
+returns : tie.Need-returns
+returns c = rw (c .before .found .given .1)
+
+returns-2 : tie.Need-returns-2
+returns-2 c = rw (c .enum-told .given .1)
+
+pub turn-of-spec : {M : Type 1} → statement M
+turn-of-spec = tie.close (tie.spec (λ c. search needs) (λ c. search needs) returns returns-2)
