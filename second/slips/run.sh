@@ -1,7 +1,7 @@
 #!/bin/sh
 # Puts each slip of this folder into a scratch copy of `second`, builds it, and
-# lets `cases compare` look for it, or `cases states` if its name begins with
-# `states`. Prints a line for each slip: its name, how many of the cases or blocks
+# lets `cases compare` look for it, of `frame` alone if its name begins with
+# `frame`, or `cases states` if its name begins with `states`. Prints a line for each slip: its name, how many of the cases or blocks
 # caught it, the first such case or block.
 #   slips/run.sh [SEED [COUNT [SLIP...]]]
 # Wants both packages built with `cargo build --release`. The variable THREADS
@@ -27,6 +27,7 @@ for patch in "$@"; do
         { printf '%s\tdoes not build\n' "$name"; continue; }
     case $name in
         states-*) look=states threads= ;;
+        frame-*) look=compare threads="--threads ${THREADS:-2} --only frame" ;;
         *) look=compare threads="--threads ${THREADS:-2}" ;;
     esac
     # The folder of programs takes the slipped binary from the variable SECOND.

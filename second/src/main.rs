@@ -1,6 +1,6 @@
 //! `second night TABLE EVENTS`, `second report TABLE EVENTS`, `second verdicts
-//! TABLE`, `second fits TABLE`, `second rewrite TABLE` and `second states FILE`;
-//! `-` stands for standard input.
+//! TABLE`, `second fits TABLE`, `second rewrite TABLE`, `second states FILE` and
+//! `second frame TABLE EVENTS`; `-` stands for standard input.
 
 use std::ffi::{OsStr, OsString};
 use std::fs::File;
@@ -8,6 +8,8 @@ use std::io::{self, BufRead, BufReader, BufWriter, Read, StdoutLock, Write};
 use std::process::ExitCode;
 
 use second::fits;
+use second::frame::FrameRun;
+use second::frame_text;
 use second::night;
 use second::report;
 use second::run::Run;
@@ -18,7 +20,7 @@ use second::verdict;
 
 const USAGE: &str = "usage: second night TABLE EVENTS | second report TABLE EVENTS | \
                      second verdicts TABLE | second fits TABLE | second rewrite TABLE | \
-                     second states FILE";
+                     second states FILE | second frame TABLE EVENTS";
 const BUFFER_SIZE: usize = 64 * 1024;
 
 type Events = BufReader<Box<dyn Read>>;
@@ -41,8 +43,21 @@ fn choose_program(arguments: &[OsString]) -> Result<(), String> {
         return Err(USAGE.to_string());
     };
     match (program.to_str(), files) {
-        (Some("night"), &[table, events]) => run_events(table, events, night::answer_events),
-        (Some("report"), &[table, events]) => run_events(table, events, report::report_events),
+        (Some("night"), &[table, events]) => {
+            run_events(table, events, text::read, |table, events, out| {
+                night::answer_events(&mut Run::fresh(table), events, out)
+            })
+        }
+        (Some("report"), &[table, events]) => {
+            run_events(table, events, text::read, |table, events, out| {
+                report::report_events(&mut Run::fresh(table), events, out)
+            })
+        }
+        (Some("frame"), &[table, events]) => {
+            run_events(table, events, frame_text::read, |table, events, out| {
+                night::answer_events(&mut FrameRun::fresh(table), events, out)
+            })
+        }
         (Some("verdicts"), &[table]) => print_table(table, verdict::lines),
         (Some("fits"), &[table]) => print_table(table, fits::line),
         (Some("rewrite"), &[table]) => print_table(table, text::write),
@@ -51,16 +66,18 @@ fn choose_program(arguments: &[OsString]) -> Result<(), String> {
     }
 }
 
-/// Prints what a program makes of a night, or the table's refusal.
-fn run_events(
+/// Prints what a program makes of a night, or the refusal of its table, which is
+/// read in its own way.
+fn run_events<T>(
     table_name: &OsStr,
     events_name: &OsStr,
-    program: fn(&mut Run, &mut Events, &mut Out) -> io::Result<()>,
+    read: fn(&[u8]) -> Result<T, Refusal>,
+    program: fn(T, &mut Events, &mut Out) -> io::Result<()>,
 ) -> Result<(), String> {
     if table_name == "-" && events_name == "-" {
         return Err("standard input cannot be both the table and the events".to_string());
     }
-    let table = read_table(table_name)?;
+    let table = read_table(table_name, read)?;
     let mut events = BufReader::with_capacity(BUFFER_SIZE, open(events_name)?);
     // Nothing is printed if the events cannot be read, a refusal neither.
     events.fill_buf().map_err(|error| cannot_read(events_name, &error))?;
@@ -68,7 +85,7 @@ fn run_events(
     let mut out = BufWriter::with_capacity(BUFFER_SIZE, io::stdout().lock());
     match table {
         Err(refusal) => writeln!(out, "{refusal}"),
-        Ok(table) => program(&mut Run::fresh(table), &mut events, &mut out),
+        Ok(table) => program(table, &mut events, &mut out),
     }
     .and_then(|()| out.flush())
     .map_err(|error| format!("cannot answer the events: {error}"))
@@ -76,7 +93,7 @@ fn run_events(
 
 /// Prints what a program makes of the table, or the table's refusal.
 fn print_table(name: &OsStr, program: fn(&Table) -> String) -> Result<(), String> {
-    match read_table(name)? {
+    match read_table(name, text::read)? {
         Err(refusal) => print(&format!("{refusal}\n")),
         Ok(table) => print(&program(&table)),
     }
@@ -89,13 +106,16 @@ fn run_states(name: &OsStr) -> Result<(), String> {
 }
 
 /// Reads a table file. No more of it is read than shows that it is too long.
-fn read_table(name: &OsStr) -> Result<Result<Table, Refusal>, String> {
+fn read_table<T>(
+    name: &OsStr,
+    read: fn(&[u8]) -> Result<T, Refusal>,
+) -> Result<Result<T, Refusal>, String> {
     let mut bytes = Vec::new();
     open(name)?
         .take(text::MAX_TEXT as u64 + 1)
         .read_to_end(&mut bytes)
         .map_err(|error| cannot_read(name, &error))?;
-    Ok(text::read(&bytes))
+    Ok(read(&bytes))
 }
 
 fn open(name: &OsStr) -> Result<Box<dyn Read>, String> {

@@ -1,9 +1,14 @@
-//! The `night` program: event lines in, answer lines out.
+//! The `night` program: event lines in, answer lines out. The `frame` program
+//! answers with the same lines.
 
-use std::io::{self, BufRead, Write};
+use std::io::{self, BufRead, ErrorKind, Write};
 
 use crate::number;
-use crate::run::{Answer, How, Run, What};
+use crate::run::{Answer, How, TakeEvents, What};
+
+/// The longest line that is an event, its line feed included: a release with a
+/// number of 11 digits.
+const LONGEST_EVENT: usize = 14;
 
 /// An event line that is well formed.
 #[derive(Clone, Copy, Debug, PartialEq, Eq)]
@@ -24,16 +29,39 @@ pub fn parse_event(line: &[u8]) -> Option<Event> {
     }
 }
 
+/// Reads a line with its line feed, if it has one; false at the end of the
+/// file. Of a line longer than any event only the start is kept, which without
+/// its line feed is no event either.
+pub(crate) fn read_line(events: &mut impl BufRead, line: &mut Vec<u8>) -> io::Result<bool> {
+    line.clear();
+    loop {
+        let read = match events.fill_buf() {
+            Err(error) if error.kind() == ErrorKind::Interrupted => continue,
+            read => read?,
+        };
+        if read.is_empty() {
+            return Ok(!line.is_empty());
+        }
+        let end = read.iter().position(|&byte| byte == b'\n');
+        let length = end.map_or(read.len(), |at| at + 1);
+        let kept = length.min(LONGEST_EVENT - line.len());
+        line.extend_from_slice(&read[..kept]);
+        events.consume(length);
+        if end.is_some() {
+            return Ok(true);
+        }
+    }
+}
+
 /// Answers every event line, each with one line.
 pub fn answer_events(
-    run: &mut Run,
+    run: &mut impl TakeEvents,
     events: &mut impl BufRead,
     out: &mut impl Write,
 ) -> io::Result<()> {
     let mut line = Vec::new();
     loop {
-        line.clear();
-        if events.read_until(b'\n', &mut line)? == 0 {
+        if !read_line(events, &mut line)? {
             return Ok(());
         }
         // An unclosed last line is no event.

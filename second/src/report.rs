@@ -1,14 +1,10 @@
 //! The `report` program: event lines in, one page of counts out at their end.
 
-use std::io::{self, BufRead, ErrorKind, Write};
+use std::io::{self, BufRead, Write};
 
-use crate::night::{parse_event, Event};
+use crate::night::{parse_event, read_line, Event};
 use crate::run::{Answer, How, Run, What};
 use crate::table::{Mode, MAX_SERVERS};
-
-/// The longest line that is an event, its line feed included: a release with a
-/// number of 11 digits.
-const LONGEST_EVENT: usize = 14;
 
 #[derive(Clone, Default)]
 struct ServerCounts {
@@ -40,7 +36,7 @@ pub fn report_events(
     out: &mut impl Write,
 ) -> io::Result<()> {
     let mut page = Page::blank(run);
-    let mut line = Vec::with_capacity(LONGEST_EVENT);
+    let mut line = Vec::new();
     while read_line(events, &mut line)? {
         // An unclosed last line is no event.
         match line.strip_suffix(b"\n").and_then(parse_event) {
@@ -51,30 +47,6 @@ pub fn report_events(
         }
     }
     page.write(run, out)
-}
-
-/// Reads a line with its line feed, if it has one; false at the end of the
-/// file. Of a line longer than any event only the start is kept, which without
-/// its line feed is no event either.
-fn read_line(events: &mut impl BufRead, line: &mut Vec<u8>) -> io::Result<bool> {
-    line.clear();
-    loop {
-        let read = match events.fill_buf() {
-            Err(error) if error.kind() == ErrorKind::Interrupted => continue,
-            read => read?,
-        };
-        if read.is_empty() {
-            return Ok(!line.is_empty());
-        }
-        let end = read.iter().position(|&byte| byte == b'\n');
-        let length = end.map_or(read.len(), |at| at + 1);
-        let kept = length.min(LONGEST_EVENT - line.len());
-        line.extend_from_slice(&read[..kept]);
-        events.consume(length);
-        if end.is_some() {
-            return Ok(true);
-        }
-    }
 }
 
 impl Page {

@@ -39,10 +39,48 @@ pub struct Queue {
 
 impl Queue {
     /// The front job leaves; the next one starts at 0.
-    fn drop_front(&mut self) {
+    pub(crate) fn drop_front(&mut self) {
         self.waiting -= 1;
         self.run = 0;
     }
+
+    /// Whether the counts go together, with the limit of the front job and whether
+    /// it is the job run last.
+    pub(crate) fn is_sound(&self, limit: u32, is_last: bool) -> bool {
+        let run_fits = if self.waiting == 0 {
+            self.run == 0
+        } else if is_last {
+            self.run <= limit
+        } else {
+            self.run < limit
+        };
+        self.waiting <= MAX_WAITING && run_fits
+    }
+}
+
+/// Whether the task that ran last, if any, is there and has a job that has run.
+pub(crate) fn last_is_sound(last: Option<usize>, ticks: u32, queues: &[Queue]) -> bool {
+    match last {
+        None => true,
+        Some(row) => match queues.get(row) {
+            None => false,
+            Some(queue) => queue.waiting >= 1 && queue.run >= 1 && ticks >= 1,
+        },
+    }
+}
+
+/// Whether both counts are within their bounds, and go with the jobs waiting.
+pub(crate) fn counts_are_sound(ticks: u32, accepted: u32, queues: &[Queue]) -> bool {
+    let waiting: u64 = queues.iter().map(|queue| u64::from(queue.waiting)).sum();
+    ticks <= MAX_COUNT && accepted <= MAX_COUNT && u64::from(accepted) >= waiting
+}
+
+/// What takes events: a run, of servers or of a frame.
+pub trait TakeEvents {
+    /// A release of a task.
+    fn release(&mut self, task: u64) -> Result<(), No>;
+    /// A tick with its end mark.
+    fn tick(&mut self, mark: bool) -> Result<Answer, No>;
 }
 
 /// A run's table and state.
@@ -108,8 +146,8 @@ impl Run {
             && self.queues.len() == self.table.tasks.len()
             && self.budgets_are_sound()
             && self.queues_are_sound()
-            && self.last_is_sound()
-            && self.counts_are_sound()
+            && last_is_sound(self.last, self.ticks, &self.queues)
+            && counts_are_sound(self.ticks, self.accepted, &self.queues)
     }
 
     fn budgets_are_sound(&self) -> bool {
@@ -122,32 +160,9 @@ impl Run {
 
     fn queues_are_sound(&self) -> bool {
         self.table.tasks.iter().zip(&self.queues).enumerate().all(|(row, (task, queue))| {
-            let limit = task.limit_in(self.mode);
-            let run_fits = if queue.waiting == 0 {
-                queue.run == 0
-            } else if self.last == Some(row) {
-                queue.run <= limit
-            } else {
-                queue.run < limit
-            };
             let lo_in_d2 = self.mode == Mode::D2 && task.level == Level::Lo && queue.waiting > 0;
-            queue.waiting <= MAX_WAITING && run_fits && !lo_in_d2
+            queue.is_sound(task.limit_in(self.mode), self.last == Some(row)) && !lo_in_d2
         })
-    }
-
-    fn last_is_sound(&self) -> bool {
-        match self.last {
-            None => true,
-            Some(row) => match self.queues.get(row) {
-                None => false,
-                Some(queue) => queue.waiting >= 1 && queue.run >= 1 && self.ticks >= 1,
-            },
-        }
-    }
-
-    fn counts_are_sound(&self) -> bool {
-        let waiting: u64 = self.queues.iter().map(|queue| u64::from(queue.waiting)).sum();
-        self.ticks <= MAX_COUNT && self.accepted <= MAX_COUNT && u64::from(self.accepted) >= waiting
     }
 
     /// A release of a task.
@@ -310,5 +325,15 @@ impl Run {
                 What::Run { server, task }
             }
         }
+    }
+}
+
+impl TakeEvents for Run {
+    fn release(&mut self, task: u64) -> Result<(), No> {
+        Run::release(self, task)
+    }
+
+    fn tick(&mut self, mark: bool) -> Result<Answer, No> {
+        Run::tick(self, mark)
     }
 }

@@ -4,6 +4,7 @@
 use std::fmt::Write;
 
 use crate::fits;
+use crate::frame_states::FrameBlock;
 use crate::run::{Answer, Budget, How, Queue, Run, What};
 use crate::table::{Kind, Level, Mode, Server, Table, Task, MAX_SERVERS, MAX_TASKS};
 use crate::text;
@@ -16,35 +17,66 @@ pub const UNSOUND: u8 = 13;
 /// Answers every block of a states text, or says what is wrong with the text.
 pub fn answer_blocks(text: &str) -> Result<String, String> {
     let mut out = String::new();
-    let mut block: Option<Block> = None;
+    let mut block: Option<AnyBlock> = None;
     for (index, line) in text.lines().enumerate() {
         if line.is_empty() || line.starts_with('#') {
             continue;
         }
         let in_line = |message: String| format!("line {}: {message}", index + 1);
         let (word, numbers) = parse_line(line).map_err(in_line)?;
-        if word == "table" {
+        if word == "table" || word == "frame" {
             if block.is_some() {
                 return Err(in_line("the block before has no operation".to_string()));
             }
-            block = Some(Block::new(&numbers).map_err(in_line)?);
+            block = Some(AnyBlock::new(word, &numbers).map_err(in_line)?);
             continue;
         }
         let Some(current) = &mut block else {
-            return Err(in_line("a block begins with a table line".to_string()));
+            return Err(in_line("a block begins with a table or frame line".to_string()));
         };
         if current.take_line(word, &numbers).map_err(in_line)? {
             continue;
         }
         let operation = Operation::parse(word, &numbers).map_err(in_line)?;
         if let Some(finished) = block.take() {
-            finished.answer(operation, &mut out);
+            finished.answer(operation, &mut out).map_err(in_line)?;
         }
     }
     if block.is_some() {
         return Err("the last block has no operation".to_string());
     }
     Ok(out)
+}
+
+/// A block of either kind.
+enum AnyBlock {
+    Table(Block),
+    Frame(FrameBlock),
+}
+
+impl AnyBlock {
+    /// The block that begins with the line.
+    fn new(word: &str, numbers: &[u64]) -> Result<AnyBlock, String> {
+        match word {
+            "frame" => Ok(AnyBlock::Frame(FrameBlock::new(numbers)?)),
+            _ => Ok(AnyBlock::Table(Block::new(numbers)?)),
+        }
+    }
+
+    fn take_line(&mut self, word: &str, numbers: &[u64]) -> Result<bool, String> {
+        match self {
+            AnyBlock::Table(block) => block.take_line(word, numbers),
+            AnyBlock::Frame(block) => block.take_line(word, numbers),
+        }
+    }
+
+    fn answer(self, operation: Operation, out: &mut String) -> Result<(), String> {
+        match self {
+            AnyBlock::Table(block) => block.answer(operation, out),
+            AnyBlock::Frame(block) => return block.answer(operation, out),
+        }
+        Ok(())
+    }
 }
 
 fn parse_line(line: &str) -> Result<(&str, Vec<u64>), String> {
@@ -61,7 +93,10 @@ fn parse_line(line: &str) -> Result<(&str, Vec<u64>), String> {
 }
 
 /// The numbers of a line as so many u32 fields.
-fn fields<const COUNT: usize>(word: &str, numbers: &[u64]) -> Result<[u32; COUNT], String> {
+pub(crate) fn fields<const COUNT: usize>(
+    word: &str,
+    numbers: &[u64],
+) -> Result<[u32; COUNT], String> {
     if numbers.len() != COUNT {
         return Err(format!("a {word} line has {COUNT} numbers, not {}", numbers.len()));
     }
@@ -72,11 +107,11 @@ fn fields<const COUNT: usize>(word: &str, numbers: &[u64]) -> Result<[u32; COUNT
     Ok(values)
 }
 
-fn one<T: Copy>(cases: &[T], number: u32, what: &str) -> Result<T, String> {
+pub(crate) fn one<T: Copy>(cases: &[T], number: u32, what: &str) -> Result<T, String> {
     cases.get(number as usize).copied().ok_or_else(|| format!("no such {what}: {number}"))
 }
 
-enum Operation {
+pub(crate) enum Operation {
     Fresh,
     Release(u64),
     Tick(bool),
@@ -205,7 +240,12 @@ impl Block {
     }
 }
 
-fn push_row<T>(rows: &mut Vec<T>, row: T, most: usize, word: &str) -> Result<(), String> {
+pub(crate) fn push_row<T>(
+    rows: &mut Vec<T>,
+    row: T,
+    most: usize,
+    word: &str,
+) -> Result<(), String> {
     if rows.len() == most {
         return Err(format!("at most {most} {word} lines"));
     }
@@ -267,7 +307,7 @@ fn apply(mut run: Run, operation: Operation, out: &mut String) -> Result<(), u8>
     Ok(())
 }
 
-fn push_tick(answer: &Answer, out: &mut String) {
+pub(crate) fn push_tick(answer: &Answer, out: &mut String) {
     let (what, server, task) = match answer.what {
         What::Idle => (0, 0, 0),
         What::Empty { server } => (1, server, 0),
@@ -296,12 +336,16 @@ fn push_state(run: &Run, out: &mut String) {
     for budget in &run.budgets {
         push_line(out, &[&"budget", &budget.used, &budget.elapsed]);
     }
-    for queue in &run.queues {
+    push_queues(&run.queues, out);
+}
+
+pub(crate) fn push_queues(queues: &[Queue], out: &mut String) {
+    for queue in queues {
         push_line(out, &[&"queue", &queue.waiting, &queue.run]);
     }
 }
 
-fn push_line(out: &mut String, fields: &[&dyn std::fmt::Display]) {
+pub(crate) fn push_line(out: &mut String, fields: &[&dyn std::fmt::Display]) {
     for (index, field) in fields.iter().enumerate() {
         let tab = if index == 0 { "" } else { "\t" };
         let _ = write!(out, "{tab}{field}"); // writing to a String cannot fail

@@ -221,7 +221,7 @@ pub fn misfit(servers: &[Server], home: u64, degraded: u64) -> Option<Misfit> {
     None
 }
 
-fn all_differ(priorities: impl Iterator<Item = u32>) -> bool {
+pub(crate) fn all_differ(priorities: impl Iterator<Item = u32>) -> bool {
     let mut seen = Vec::new();
     for priority in priorities {
         if seen.contains(&priority) {

@@ -1,5 +1,5 @@
 //! The reader and the writer of table text. Text holds microseconds, a table
-//! holds ticks; only this module converts.
+//! holds ticks; only this module and that of frame tables convert.
 
 use std::fmt;
 
@@ -47,7 +47,7 @@ pub enum With {
 }
 
 impl Refusal {
-    fn at(line: usize, fault: Fault) -> Refusal {
+    pub(crate) fn at(line: usize, fault: Fault) -> Refusal {
         Refusal { number: fault.number, line, with: With::Field(fault.field) }
     }
 }
@@ -61,13 +61,16 @@ impl fmt::Display for Refusal {
 
 /// What is wrong with a line: the number for no and the field.
 #[derive(Clone, Copy)]
-struct Fault {
+pub(crate) struct Fault {
     number: u8,
     field: usize,
 }
 
+/// A line that is missing or unclosed is malformed as a line.
+pub(crate) const NO_LINE: Fault = Fault { number: MALFORMED, field: THE_LINE };
+
 impl Fault {
-    fn new(number: u8, field: usize) -> Fault {
+    pub(crate) fn new(number: u8, field: usize) -> Fault {
         Fault { number, field }
     }
 }
@@ -75,28 +78,36 @@ impl Fault {
 /// Reads a table text, or says why it is refused: length first, then line by
 /// line, then equal priorities of servers, then of tasks.
 pub fn read(text: &[u8]) -> Result<Table, Refusal> {
+    let mut reader = Reader::default();
+    let lines_read = read_lines(text, |line| reader.take_line(line))?;
+    let table = reader.finish().ok_or(Refusal::at(lines_read + 1, NO_LINE))?;
+    check_priorities(&table)?;
+    Ok(table)
+}
+
+/// Hands over the lines of a text one by one, each without its line feed, and
+/// gives how many there are; or refuses the text, length first, at the first line
+/// that is unclosed or in which a fault is found.
+pub(crate) fn read_lines(
+    text: &[u8],
+    mut take_line: impl FnMut(&[u8]) -> Result<(), Fault>,
+) -> Result<usize, Refusal> {
     if text.len() > MAX_TEXT {
         return Err(Refusal::at(0, Fault::new(OUT_OF_BOUNDS, THE_LINE)));
     }
 
-    // A line that is missing or unclosed is malformed as a line.
-    let no_line = Fault::new(MALFORMED, THE_LINE);
-    let mut reader = Reader::default();
     let mut lines_read = 0;
     let mut rest = text;
     while !rest.is_empty() {
         let line_number = lines_read + 1;
         let Some(end) = rest.iter().position(|&byte| byte == b'\n') else {
-            return Err(Refusal::at(line_number, no_line));
+            return Err(Refusal::at(line_number, NO_LINE));
         };
-        reader.take_line(&rest[..end]).map_err(|fault| Refusal::at(line_number, fault))?;
+        take_line(&rest[..end]).map_err(|fault| Refusal::at(line_number, fault))?;
         rest = &rest[end + 1..];
         lines_read = line_number;
     }
-
-    let table = reader.finish().ok_or(Refusal::at(lines_read + 1, no_line))?;
-    check_priorities(&table)?;
-    Ok(table)
+    Ok(lines_read)
 }
 
 /// A server line that is well formed; times are in microseconds.
@@ -121,9 +132,12 @@ struct TaskLine {
 // among them is its count from 1. They are read from left to right, so that the
 // leftmost malformed one is told.
 
-fn parse_tick(fields: &[&[u8]]) -> Result<u64, Fault> {
+/// The tick length of a tick line.
+pub(crate) fn read_tick(fields: &[&[u8]]) -> Result<u32, Fault> {
     expect_fields(fields, 1)?;
-    number_at(fields, 1)
+    let tick = number_at(fields, 1)?;
+    expect(OUT_OF_BOUNDS, &[(1, tick >= 1 && tick <= u64::from(MAX_TICK_LENGTH))])?;
+    Ok(tick as u32)
 }
 
 fn parse_server(fields: &[&[u8]]) -> Result<ServerLine, Fault> {
@@ -148,21 +162,38 @@ fn parse_task(fields: &[&[u8]]) -> Result<TaskLine, Fault> {
     })
 }
 
+/// Room for the fields of a line. Of too many fields one more than fits is kept, so
+/// that they stay too many.
+pub(crate) const NO_FIELDS: [&[u8]; MAX_FIELDS + 1] = [b""; MAX_FIELDS + 1];
+
+/// The fields of a line, its leading word first.
+pub(crate) fn split_fields<'r, 'l>(
+    line: &'l [u8],
+    room: &'r mut [&'l [u8]; MAX_FIELDS + 1],
+) -> &'r [&'l [u8]] {
+    let mut count = 0;
+    for (field, place) in line.split(|&byte| byte == b'\t').zip(room.iter_mut()) {
+        *place = field;
+        count += 1;
+    }
+    &room[..count]
+}
+
 /// Whether so many fields follow the leading word.
-fn expect_fields(fields: &[&[u8]], count: usize) -> Result<(), Fault> {
+pub(crate) fn expect_fields(fields: &[&[u8]], count: usize) -> Result<(), Fault> {
     if fields.len() != 1 + count {
         return Err(Fault::new(MALFORMED, THE_LINE));
     }
     Ok(())
 }
 
-fn number_at(fields: &[&[u8]], field: usize) -> Result<u64, Fault> {
+pub(crate) fn number_at(fields: &[&[u8]], field: usize) -> Result<u64, Fault> {
     number::parse(fields[field]).ok_or(Fault::new(MALFORMED, field))
 }
 
 /// Refuses with the number at the first field whose condition does not hold;
 /// the fields are given from left to right, the line itself before them.
-fn expect(number: u8, conditions: &[(usize, bool)]) -> Result<(), Fault> {
+pub(crate) fn expect(number: u8, conditions: &[(usize, bool)]) -> Result<(), Fault> {
     for &(field, holds) in conditions {
         if !holds {
             return Err(Fault::new(number, field));
@@ -184,17 +215,13 @@ impl Reader {
     /// it: its leading word for its place, then the count of its fields, then
     /// all of 1, 2, 3 and 41 to 45 in this order.
     fn take_line(&mut self, line: &[u8]) -> Result<(), Fault> {
-        // Of too many fields one more than fits is kept, so that they stay too
-        // many.
-        let mut room: [&[u8]; MAX_FIELDS + 1] = [b""; MAX_FIELDS + 1];
-        let mut count = 0;
-        for (field, place) in line.split(|&byte| byte == b'\t').zip(&mut room) {
-            *place = field;
-            count += 1;
-        }
-        let fields = &room[..count];
+        let mut room = NO_FIELDS;
+        let fields = split_fields(line, &mut room);
         match (fields[0], self.tick) {
-            (b"tick", None) => self.take_tick(parse_tick(fields)?),
+            (b"tick", None) => {
+                self.tick = Some(read_tick(fields)?);
+                Ok(())
+            }
             (b"server", Some(tick)) if self.tasks.is_empty() => {
                 self.take_server(parse_server(fields)?, u64::from(tick))
             }
@@ -203,12 +230,6 @@ impl Reader {
             }
             _ => Err(Fault::new(MALFORMED, THE_LINE)),
         }
-    }
-
-    fn take_tick(&mut self, tick: u64) -> Result<(), Fault> {
-        expect(OUT_OF_BOUNDS, &[(1, tick >= 1 && tick <= u64::from(MAX_TICK_LENGTH))])?;
-        self.tick = Some(tick as u32);
-        Ok(())
     }
 
     fn take_server(&mut self, line: ServerLine, tick: u64) -> Result<(), Fault> {
@@ -290,11 +311,11 @@ impl Reader {
     }
 }
 
-fn priority_in_bounds(priority: u64) -> bool {
+pub(crate) fn priority_in_bounds(priority: u64) -> bool {
     priority >= 1 && priority <= u64::from(MAX_PRIORITY)
 }
 
-fn limit_in_bounds(ticks: u64) -> bool {
+pub(crate) fn limit_in_bounds(ticks: u64) -> bool {
     ticks >= 1 && ticks <= u64::from(MAX_LIMIT)
 }
 
@@ -317,15 +338,21 @@ fn check_priorities(table: &Table) -> Result<(), Refusal> {
     let first_task_line = first_server_line + servers.len();
 
     for (priorities, first_line) in [(servers, first_server_line), (tasks, first_task_line)] {
-        if let Some((smaller, larger)) = first_equal_pair(&priorities) {
-            return Err(Refusal {
-                number: EQUAL_PRIORITIES,
-                line: first_line + smaller,
-                with: With::SecondLine(first_line + larger),
-            });
-        }
+        expect_different(&priorities, first_line)?;
     }
     Ok(())
+}
+
+/// Refuses equal priorities of rows of which the first stands on the line.
+pub(crate) fn expect_different(priorities: &[u32], first_line: usize) -> Result<(), Refusal> {
+    match first_equal_pair(priorities) {
+        None => Ok(()),
+        Some((smaller, larger)) => Err(Refusal {
+            number: EQUAL_PRIORITIES,
+            line: first_line + smaller,
+            with: With::SecondLine(first_line + larger),
+        }),
+    }
 }
 
 /// The first pair of rows with equal priority: pairs are ordered by the

@@ -9,6 +9,9 @@ use std::process::{Command, Output, Stdio};
 
 use common::EXAMPLE;
 
+/// A small frame table.
+const FRAME: &str = "tick\t1\ntask\t0\t1\t1\n";
+
 fn second(arguments: &[&str], input: &[u8]) -> Output {
     let mut child = Command::new(env!("CARGO_BIN_EXE_second"))
         .args(arguments)
@@ -74,6 +77,40 @@ fn mistakes_in_the_arguments_and_files() {
     fails(&["fits", &table, &table]);
     fails(&["fits", "no such file"]);
     fails(&["fits", folder]);
+    let frame = file("frame-for-mistakes", FRAME.as_bytes());
+    fails(&["frame"]);
+    fails(&["frame", &frame]);
+    fails(&["frame", &frame, "-", "-"]);
+    fails(&["frame", "-", "-"]);
+    fails(&["frame", "no such file", "-"]);
+    fails(&["frame", &frame, "no such file"]);
+    fails(&["frame", &frame, folder]);
+    fails(&["frame", &empty, folder]);
+}
+
+#[test]
+fn frame_nights_are_printed() {
+    let table = file("frame-for-answers", FRAME.as_bytes());
+    let events = file("events-for-frames", b"R\t0\nT\t0\nT\t1\n\nT\t1");
+    let answers = "R\t0\tok\nT\t0\tN\trun\t0\t0\t-\t-\t0\nT\t1\tN\tempty\t1\t-\tdone\t0\t0\n\
+         ?\tno\t1\n?\tno\t1\n";
+    prints(&["frame", &table, &events], b"", answers);
+    prints(&["frame", "-", &events], FRAME.as_bytes(), answers);
+    prints(&["frame", &table, "-"], b"R\t0\nT\t0\nT\t1\n\nT\t1", answers);
+    prints(&["frame", &table, "-"], b"", "");
+    prints(&["frame", "-", &events], b"", "table\tno\t1\t1\t0\n");
+    prints(&["frame", "-", &events], &[b'\n'; 16_385], "table\tno\t2\t0\t0\n");
+    prints(&["frame", "-", &events], b"tick\t0\n", "table\tno\t2\t1\t1\n");
+    let equal = format!("{FRAME}task\t2\t1\t1\n");
+    prints(&["frame", "-", &events], equal.as_bytes(), "table\tno\t5\t2\t3\n");
+    // The tables of the other programs are no frame tables.
+    prints(&["frame", "-", &events], EXAMPLE.as_bytes(), "table\tno\t1\t2\t0\n");
+
+    let mut long = b"T\t0".to_vec();
+    long.resize(3_000_000, b'0');
+    long.extend_from_slice(b"\nT\t0\n");
+    let long = file("long-lines-for-frames", &long);
+    prints(&["frame", &table, &long], b"", "?\tno\t1\nT\t0\tN\tempty\t0\t-\t-\t-\t0\n");
 }
 
 #[test]

@@ -1,5 +1,6 @@
 //! A good table and a long event file, for measuring.
 
+use crate::frame::{FrameTable, FrameTask};
 use crate::random::Random;
 use crate::table::{text_of, Server, Table, Task};
 
@@ -59,6 +60,16 @@ fn table(servers: usize, tasks: usize) -> Table {
         });
     }
     Table { tick: TICK, servers: server_rows, tasks: task_rows }
+}
+
+/// The text of a frame table with so many tasks, of the three partitions by turns.
+pub fn frame_table_text(tasks: usize) -> Vec<u8> {
+    let row = |row: usize| FrameTask {
+        partition: (row % 3) as u64,
+        priority: (255 - row) as u64,
+        time: (2 + row % 5) as u64 * TICK,
+    };
+    text_of(&FrameTable { tick: TICK, tasks: (0..tasks).map(row).collect() }.lines())
 }
 
 /// The row of the timed server in a row's partition.

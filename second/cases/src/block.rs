@@ -322,15 +322,7 @@ impl Block {
         let mut text = line(&[&"table", &self.tick, &self.server_count, &self.task_count]);
         text += &self.row_lines(1, |server| u64::from(server.timed), |task| task.level);
         text += &self.state_lines(random);
-        let word = self.operation.word();
-        text += &match self.operation {
-            Operation::Fresh | Operation::Fits | Operation::FitsState => line(&[&word]),
-            Operation::Verdict(row, mode) => line(&[&word, &row, &mode]),
-            Operation::Release(number) | Operation::Tick(number) | Operation::Write(number) => {
-                line(&[&word, &number])
-            }
-        };
-        text
+        text + &operation_line(self.operation)
     }
 
     fn state_lines(&self, random: &mut Random) -> String {
@@ -353,7 +345,18 @@ impl Block {
     }
 }
 
-fn line(fields: &[&dyn Display]) -> String {
+pub fn operation_line(operation: Operation) -> String {
+    let word = operation.word();
+    match operation {
+        Operation::Fresh | Operation::Fits | Operation::FitsState => line(&[&word]),
+        Operation::Verdict(row, mode) => line(&[&word, &row, &mode]),
+        Operation::Release(number) | Operation::Tick(number) | Operation::Write(number) => {
+            line(&[&word, &number])
+        }
+    }
+}
+
+pub fn line(fields: &[&dyn Display]) -> String {
     let mut line = String::new();
     for (index, field) in fields.iter().enumerate() {
         let tab = if index == 0 { "" } else { "\t" };
@@ -416,7 +419,7 @@ fn draw_queue(task: &Task, mode: usize, busy: u64, random: &mut Random) -> Queue
 }
 
 /// A count from a least one to 4,000,000,000, often at the end.
-fn draw_count(least: u64, random: &mut Random) -> u64 {
+pub fn draw_count(least: u64, random: &mut Random) -> u64 {
     match random.below(10) {
         0 => least,
         1 => MAX_COUNT,
@@ -427,7 +430,7 @@ fn draw_count(least: u64, random: &mut Random) -> u64 {
 }
 
 /// A row, mostly one in use.
-fn draw_row(count: u64, random: &mut Random) -> u64 {
+pub fn draw_row(count: u64, random: &mut Random) -> u64 {
     match random.below(10) {
         0 => count,
         1 => random.pick(&[count + 1, 31, 32, 63, 64, 255, 256, MAX_FIELD, ELEVEN_DIGITS]),

@@ -1,4 +1,5 @@
-//! One case: a table file, an event file and the name of what it is after.
+//! One case: a table file, an event file and the name of what it is after. Some
+//! have a frame table and its event file beside them.
 
 use std::fs;
 use std::io;
@@ -6,6 +7,7 @@ use std::path::Path;
 
 use crate::damage;
 use crate::events;
+use crate::frame::FrameCase;
 use crate::random::Random;
 use crate::table::{self, text_of, Table};
 
@@ -13,7 +15,15 @@ pub struct Case {
     pub name: String,
     pub table: Vec<u8>,
     pub events: Vec<u8>,
+    pub frame: Option<FrameCase>,
 }
+
+/// One of so many cases has a frame table, and one of so many long nights.
+const FRAME_EVERY: u64 = 4;
+const LONG_FRAME_EVERY: u64 = 5;
+/// The frame files are drawn from a seed of their own, so that a case is the same
+/// with them and without.
+const FRAME_SEED: u64 = 0x6672_616d;
 
 /// The cases from this number on are long nights.
 pub const LONG: u64 = 1_000_000_000;
@@ -24,6 +34,11 @@ const LONGEST_EVERY: u64 = 20;
 impl Case {
     /// The case of a seed with a number, always the same one.
     pub fn make(seed: u64, number: u64) -> Case {
+        let frame = frame_case(seed, number);
+        Case { frame, ..Case::without_frame(seed, number) }
+    }
+
+    fn without_frame(seed: u64, number: u64) -> Case {
         let mut random = Random::for_case(seed, number);
         let random = &mut random;
         if number >= LONG {
@@ -51,7 +66,7 @@ impl Case {
             }
             _ => {
                 let (table, name) = damage::damaged(random);
-                return Case { name, table, events: events::few_events(random) };
+                return Case { name, table, events: events::few_events(random), frame: None };
             }
         };
         let events = events::events(good.tasks.len(), random);
@@ -59,7 +74,7 @@ impl Case {
     }
 
     fn of(name: &str, good: &Table, events: Vec<u8>) -> Case {
-        Case { name: name.to_string(), table: text_of(&good.lines()), events }
+        Case { name: name.to_string(), table: text_of(&good.lines()), events, frame: None }
     }
 
     fn long(random: &mut Random) -> Case {
@@ -87,11 +102,31 @@ impl Case {
         Case::of("good-longest-serving", &good, events)
     }
 
-    /// Writes the two files, `table` and `events`, into a folder that is there.
+    /// Writes the two files, `table` and `events`, and `frame-table` and
+    /// `frame-events` if there are such, into a folder that is there.
     pub fn write_to(&self, folder: &Path) -> io::Result<()> {
         fs::write(folder.join("table"), &self.table)?;
-        fs::write(folder.join("events"), &self.events)
+        fs::write(folder.join("events"), &self.events)?;
+        if let Some(frame) = &self.frame {
+            frame.write_to(folder)?;
+        }
+        Ok(())
     }
+}
+
+/// The frame files of a case, if it has them.
+fn frame_case(seed: u64, number: u64) -> Option<FrameCase> {
+    let mut random = Random::for_case(seed ^ FRAME_SEED, number);
+    let (place, every) =
+        if number < LONG { (number, FRAME_EVERY) } else { (number - LONG, LONG_FRAME_EVERY) };
+    if place % every != 0 {
+        return None;
+    }
+    Some(if number < LONG {
+        FrameCase::make((place / every) as usize, &mut random)
+    } else {
+        FrameCase::long(&mut random)
+    })
 }
 
 fn long_table(random: &mut Random) -> Table {
@@ -113,6 +148,14 @@ mod tests {
             assert_eq!(one.name, other.name);
             assert_eq!(one.table, other.table);
             assert_eq!(one.events, other.events);
+            let frames = one.frame.zip(other.frame);
+            assert_eq!(frames.is_some(), number % if number < LONG { 4 } else { 5 } == 0);
+            if let Some((one, other)) = frames {
+                assert_eq!(
+                    (one.name, one.table, one.events),
+                    (other.name, other.table, other.events)
+                );
+            }
         }
     }
 

@@ -12,14 +12,12 @@ use crate::case::{Case, LONG};
 use crate::coverage::Coverage;
 use crate::fit::Page;
 
-const PROGRAMS: [&str; 5] = ["night", "report", "verdicts", "fits", "rewrite"];
-/// The places of two of them.
-const VERDICTS: usize = 2;
-const FITS: usize = 3;
+/// The programs; `frame` has files of its own, and runs where a case has them.
+const PROGRAMS: [&str; 6] = ["night", "report", "verdicts", "fits", "rewrite", "frame"];
 
 pub struct Options {
-    /// The folder with the executables `night`, `report`, `verdicts`, `fits` and
-    /// `rewrite`.
+    /// The folder with the executables `night`, `report`, `verdicts`, `fits`,
+    /// `rewrite` and `frame`.
     pub first: PathBuf,
     /// The `second` binary.
     pub second: PathBuf,
@@ -29,6 +27,8 @@ pub struct Options {
     pub long: u64,
     /// Where the files of differing cases are kept.
     pub keep: Option<PathBuf>,
+    /// The one program that is run, if not all are.
+    pub only: Option<String>,
     pub threads: u64,
 }
 
@@ -43,6 +43,11 @@ struct Totals {
 
 /// Compares all cases; gives whether all passed and nothing was left unseen.
 pub fn compare(options: &Options) -> Result<bool, String> {
+    if let Some(only) = &options.only {
+        if !PROGRAMS.contains(&only.as_str()) {
+            return Err(format!("no such program: {only}"));
+        }
+    }
     println!("seed {}, {} cases, {} long nights", options.seed, options.count, options.long);
     let folder = std::env::temp_dir().join(format!("cases-{}", std::process::id()));
     let totals = Mutex::new(Totals::default());
@@ -78,7 +83,8 @@ pub fn compare(options: &Options) -> Result<bool, String> {
     }
     let complete = totals.coverage.print(options.long > 0);
     println!("{} passed, {} failed", totals.passed, totals.failed);
-    Ok(totals.failed == 0 && complete)
+    // One program alone does not show all that is wanted.
+    Ok(totals.failed == 0 && (complete || options.only.is_some()))
 }
 
 /// Takes cases until none is left.
@@ -97,42 +103,38 @@ fn work(
         }
         let number = if taken < options.count { taken } else { LONG + taken - options.count };
         let case = Case::make(options.seed, number);
-        case.write_to(folder).map_err(|error| failed("write to", folder, &error))?;
-        let runs = run_all(options, folder)?;
+        let runs = run_all(options, &case, folder)?;
 
-        let page = Page::of(&case.table, &runs[VERDICTS].second.stdout);
+        let verdicts = output_of(&runs, "verdicts").unwrap_or_default();
+        let page = Page::of(&case.table, verdicts);
+        let coverage = seen_in(&case, &runs, page.as_ref());
 
-        let mut coverage = Coverage::default();
-        coverage.case(&case.name, &runs[0].second.stdout);
-        for (program, run) in PROGRAMS.iter().zip(&runs) {
-            let output = &run.second.stdout;
-            match *program {
-                "night" => {
-                    coverage.night(&case.table, output);
-                    coverage.seams(&case.events, output);
-                }
-                "report" => coverage.page(&case.table, &case.events, output),
-                "verdicts" => coverage.verdicts(output),
-                "fits" => coverage.fits(page.as_ref()),
-                _ => coverage.rewrite(&case.table, output),
-            }
-        }
-        let mut differences: Vec<String> = PROGRAMS
-            .iter()
-            .zip(&runs)
-            .filter_map(|(program, run)| Some(format!("  {program}: {}", run.difference()?)))
-            .collect();
-        differences.extend(unlike_the_page(page.as_ref(), &runs[FITS].second.stdout));
+        let differing: Vec<(&str, String)> =
+            runs.iter().filter_map(|run| Some((run.program, run.difference()?))).collect();
+        let mut differences: Vec<String> =
+            differing.iter().map(|(program, words)| format!("  {program}: {words}")).collect();
+        let fits = output_of(&runs, "fits");
+        differences.extend(fits.and_then(|answer| unlike_the_page(page.as_ref(), answer)));
+        let frame_only = differing.iter().all(|(program, _)| *program == "frame")
+            && differing.len() == differences.len();
 
         let mut totals = totals.lock().expect("no worker panicked");
         totals.coverage.add(&coverage);
         *totals.names.entry(kind_of(&case.name).to_string()).or_insert(0) += 1;
+        if let Some(frame) = &case.frame {
+            let kind = format!("frame {}", kind_of(&frame.name));
+            *totals.names.entry(kind).or_insert(0) += 1;
+        }
         if differences.is_empty() {
             totals.passed += 1;
             continue;
         }
         totals.failed += 1;
-        println!("seed {} case {number} {} differs", options.seed, case.name);
+        let name = match &case.frame {
+            Some(frame) if frame_only => format!("frame-{}", frame.name),
+            _ => case.name.clone(),
+        };
+        println!("seed {} case {number} {name} differs", options.seed);
         for difference in differences {
             println!("{difference}");
         }
@@ -141,6 +143,28 @@ fn work(
         }
     }
     Ok(())
+}
+
+/// What was made in a case and seen in the answers of the second.
+fn seen_in(case: &Case, runs: &[Run], page: Option<&Page>) -> Coverage {
+    let mut coverage = Coverage::default();
+    for run in runs {
+        let output = &run.second.stdout;
+        match (run.program, &case.frame) {
+            ("night", _) => {
+                coverage.case(&case.name, output);
+                coverage.night(&case.table, output);
+                coverage.seams(&case.events, output);
+            }
+            ("report", _) => coverage.page(&case.table, &case.events, output),
+            ("verdicts", _) => coverage.verdicts(output),
+            ("fits", _) => coverage.fits(page),
+            ("rewrite", _) => coverage.rewrite(&case.table, output),
+            (_, Some(frame)) => coverage.frame(frame, output),
+            _ => {}
+        }
+    }
+    coverage
 }
 
 /// The first part of a case's name: `good`, `pair` or the number it is after.
@@ -160,6 +184,7 @@ fn unlike_the_page(page: Option<&Page>, answer: &[u8]) -> Option<String> {
 
 /// What the two programs of one name made of a case.
 struct Run {
+    program: &'static str,
     first: Output,
     second: Output,
 }
@@ -202,13 +227,33 @@ fn show(line: Option<&[u8]>) -> String {
     }
 }
 
-fn run_all(options: &Options, folder: &Path) -> Result<Vec<Run>, String> {
+/// What the second program of the name printed, if it was run.
+fn output_of<'a>(runs: &'a [Run], program: &str) -> Option<&'a [u8]> {
+    let run = runs.iter().find(|run| run.program == program)?;
+    Some(&run.second.stdout)
+}
+
+/// The programs that are run on a case.
+fn programs_for(options: &Options, case: &Case) -> Vec<&'static str> {
+    let is_asked = |program: &&str| options.only.as_ref().is_none_or(|only| only == program);
+    let has_files = |program: &&str| *program != "frame" || case.frame.is_some();
+    PROGRAMS.into_iter().filter(is_asked).filter(has_files).collect()
+}
+
+/// Writes a case and runs its programs on it.
+fn run_all(options: &Options, case: &Case, folder: &Path) -> Result<Vec<Run>, String> {
+    let programs = programs_for(options, case);
+    if programs.is_empty() {
+        return Ok(Vec::new());
+    }
+    case.write_to(folder).map_err(|error| failed("write to", folder, &error))?;
     let mut runs = Vec::new();
-    for program in PROGRAMS {
+    for program in programs {
         let mut first = Command::new(options.first.join(program));
         let mut second = Command::new(&options.second);
         second.arg(program);
         runs.push(Run {
+            program,
             first: run_one(&mut first, program, folder)?,
             second: run_one(&mut second, program, folder)?,
         });
@@ -217,10 +262,12 @@ fn run_all(options: &Options, folder: &Path) -> Result<Vec<Run>, String> {
 }
 
 fn run_one(command: &mut Command, program: &str, folder: &Path) -> Result<Output, String> {
-    command.arg(folder.join("table"));
-    if matches!(program, "night" | "report") {
-        command.arg(folder.join("events"));
-    }
+    let files: &[&str] = match program {
+        "night" | "report" => &["table", "events"],
+        "frame" => &["frame-table", "frame-events"],
+        _ => &["table"],
+    };
+    command.args(files.iter().map(|file| folder.join(file)));
     command
         .stdin(Stdio::null())
         .output()
@@ -233,9 +280,12 @@ fn keep_case(keep: &Path, seed: u64, number: u64, case: &Case, runs: &[Run]) -> 
         fs::create_dir_all(&folder)?;
         case.write_to(&folder)?;
         fs::write(folder.join("name"), format!("{}\n", case.name))?;
-        for (program, run) in PROGRAMS.iter().zip(runs) {
-            fs::write(folder.join(format!("{program}.first")), &run.first.stdout)?;
-            fs::write(folder.join(format!("{program}.second")), &run.second.stdout)?;
+        if let Some(frame) = &case.frame {
+            fs::write(folder.join("frame-name"), format!("{}\n", frame.name))?;
+        }
+        for Run { program, first, second } in runs {
+            fs::write(folder.join(format!("{program}.first")), &first.stdout)?;
+            fs::write(folder.join(format!("{program}.second")), &second.stdout)?;
         }
         Ok(())
     };

@@ -3,7 +3,10 @@
 use std::cmp::Ordering;
 use std::collections::BTreeMap;
 
+use crate::damage::MAX_TEXT;
 use crate::fit::{self, Page};
+use crate::frame::FrameCase;
+use crate::frame_seen;
 use crate::judged::{self, Judged, LEVELS, MODES};
 
 /// The counts that must not be 0, beside those of step 1 and of tables that fit or
@@ -115,6 +118,49 @@ const MADE: [&str; 40] = [
     "made: on two lines, one number",
     "made: 5 and a fault of a line",
     "made: a row too many and 5",
+];
+
+/// The same for frame tables, and what is to be made of them.
+const FRAME_FIELDS: [(&str, &str, &[usize]); 4] = [
+    ("1", "tick", &[1]),
+    ("1", "task", &[1, 2, 3]),
+    ("2", "tick", &[1]),
+    ("2", "task", &[1, 2, 3]),
+];
+const FRAME_CAUSES: [&str; 14] = [
+    "frame: table no 1 at 0: leading word",
+    "frame: table no 1 at 0: too few fields of a tick line",
+    "frame: table no 1 at 0: too few fields of a task line",
+    "frame: table no 1 at 0: too many fields of a tick line",
+    "frame: table no 1 at 0: too many fields of a task line",
+    "frame: table no 1 at 0: misplaced tick line",
+    "frame: table no 1 at 0: misplaced server line",
+    "frame: table no 1 at 0: misplaced task line",
+    "frame: table no 1 at 0: missing line",
+    "frame: table no 1 at 0: empty text",
+    "frame: table no 1 at 0: unclosed line",
+    "frame: table no 2 at 0: text too long",
+    "frame: table no 2 at 0: task row too many",
+    "frame: table no 5 of task lines",
+];
+const FRAME_MADE: [&str; 17] = [
+    "frame: made: on one line, 0 left of 1",
+    "frame: made: on one line, 0 left of 2",
+    "frame: made: on one line, 1 left of 1",
+    "frame: made: on one line, 1 left of 2",
+    "frame: made: on one line, 2 left of 1",
+    "frame: made: on one line, 2 left of 2",
+    "frame: made: 65th task with 1",
+    "frame: made: 65th task with 2",
+    "frame: made: a row too many and 5",
+    "frame: made: misplaced line with 1",
+    "frame: made: misplaced line with 2",
+    "frame: made: unclosed line with a fault",
+    "frame: made: on two lines, the smaller number above",
+    "frame: made: on two lines, the greater number above",
+    "frame: made: on two lines, one number",
+    "frame: made: 5 and a fault of a line",
+    "frame: table of 16384 bytes",
 ];
 
 /// The counts of `report`'s pages that must not be 0. Those above 1 are of rows,
@@ -231,7 +277,7 @@ impl Coverage {
             let fields: Vec<&str> = line.split('\t').collect();
             match fields.as_slice() {
                 ["table", "no", number, line, last] => {
-                    self.table_refused(table, number, line, last);
+                    self.table_refused("", &TABLE, table, [number, line, last]);
                     return;
                 }
                 ["?", "no", "1"] => self.count("event no 1"),
@@ -254,17 +300,39 @@ impl Coverage {
         self.count("table taken");
     }
 
-    fn table_refused(&mut self, table: &[u8], number: &str, line: &str, last: &str) {
+    /// Counts a refusal of a text by its number, line and field or second line. The
+    /// names begin with a prefix.
+    fn table_refused(&mut self, prefix: &str, form: &Form, table: &[u8], refusal: [&str; 3]) {
+        let [number, line, last] = refusal;
         let line: usize = line.parse().unwrap_or(0);
-        let word = word_of(lines_of(table).nth(line.wrapping_sub(1)).unwrap_or(b""));
+        let word = form.word_of(lines_of(table).nth(line.wrapping_sub(1)).unwrap_or(b""));
         let what = match (number, last) {
             ("5", _) => format!("of {word} lines"),
-            ("1", "0") => format!("at 0: {}", cause_of_1(table, line)),
+            ("1", "0") => format!("at 0: {}", form.cause_of_1(table, line)),
             ("2", "0") if line == 0 => "at 0: text too long".to_string(),
             ("2", "0") => format!("at 0: {word} row too many"),
             _ => format!("at {last} of a {word} line"),
         };
-        self.count(&format!("table no {number} {what}"));
+        self.count(&format!("{prefix}table no {number} {what}"));
+    }
+
+    /// Counts a frame table by its name, and the answers to it.
+    pub fn frame(&mut self, frame: &FrameCase, output: &[u8]) {
+        for what in made(&frame.name) {
+            self.count(&format!("frame: made: {what}"));
+        }
+        let text = String::from_utf8_lossy(output);
+        let fields: Vec<&str> = text.trim_end_matches('\n').split('\t').collect();
+        let &["table", "no", number, line, last] = fields.as_slice() else {
+            return frame_seen::see(&frame.table, output, |what| self.count(what));
+        };
+        self.table_refused("frame: ", &FRAME, &frame.table, [number, line, last]);
+        if frame.table.is_empty() {
+            self.count("frame: table no 1 at 0: empty text");
+        }
+        if frame.table.len() == MAX_TEXT {
+            self.count("frame: table of 16384 bytes");
+        }
     }
 
     fn tick(&mut self, mode_before: &str, mode: &str, what: &str, how: &str, discarded: &str) {
@@ -437,17 +505,21 @@ impl Coverage {
     pub fn print(&self, long: bool) -> bool {
         println!("made in the cases and seen in the answers:");
         let mut wanted: Vec<String> = Vec::new();
-        for (number, word, fields) in FIELDS {
-            for field in fields {
-                wanted.push(format!("table no {number} at {field} of a {word} line"));
+        for (prefix, all) in [("", &FIELDS[..]), ("frame: ", &FRAME_FIELDS[..])] {
+            for (number, word, fields) in all {
+                for field in *fields {
+                    wanted.push(format!("{prefix}table no {number} at {field} of a {word} line"));
+                }
             }
         }
         let seen = [&WANTED[..], &judged::WANTED[..], &PAGES[..], &fit::WANTED[..]].concat();
-        let others = [&CAUSES[..], &MADE[..], &seen[..]].concat();
+        let frames = [&FRAME_CAUSES[..], &FRAME_MADE[..], &frame_seen::WANTED[..]].concat();
+        let others = [&CAUSES[..], &MADE[..], &seen[..], &frames[..]].concat();
         wanted.extend(others.into_iter().map(String::from));
         if long {
             let seams = READ.counts.iter().chain(&WRITTEN.counts).chain(&BATCH.counts[..3]);
             wanted.extend(LONG_PAGES.iter().chain(seams).map(|what| what.to_string()));
+            wanted.push(frame_seen::LONG_WANTED.to_string());
         }
         let mut complete = true;
         for what in &wanted {
@@ -482,38 +554,57 @@ fn levels_of(table: &[u8]) -> Vec<usize> {
         .collect()
 }
 
-/// Why a line is 1 as a line. The lines before it are good.
-fn cause_of_1(table: &[u8], number: usize) -> String {
-    let lines: Vec<&[u8]> = lines_of(table).collect();
-    let Some(line) = lines.get(number - 1) else { return "missing line".to_string() };
-    let Some(line) = line.strip_suffix(b"\n") else { return "unclosed line".to_string() };
-    let word = word_of(line);
-    let Some(&(_, count)) = KINDS.iter().find(|(kind, _)| *kind == word) else {
-        return "leading word".to_string();
-    };
-    let before = if number > 1 { word_of(lines[number - 2]) } else { "" };
-    let in_place = matches!(
-        (before, word),
-        ("", "tick") | ("tick" | "server", "server") | ("server" | "task", "task")
-    );
-    let fields = line.iter().filter(|&&byte| byte == b'\t').count();
-    if !in_place {
-        format!("misplaced {word} line")
-    } else if fields < count {
-        format!("too few fields of a {word} line")
-    } else {
-        format!("too many fields of a {word} line")
-    }
+/// The lines of a text.
+struct Form {
+    /// The kinds of line with the count of their fields.
+    kinds: &'static [(&'static str, usize)],
+    /// Whether a line may stand after another, or after none.
+    may_follow: fn(&str, &str) -> bool,
 }
 
-/// The kinds of line with the count of their fields.
-const KINDS: [(&str, usize); 3] = [("tick", 1), ("server", 7), ("task", 7)];
+const TABLE: Form = Form {
+    kinds: &[("tick", 1), ("server", 7), ("task", 7)],
+    may_follow: |before, word| {
+        matches!(
+            (before, word),
+            ("", "tick") | ("tick" | "server", "server") | ("server" | "task", "task")
+        )
+    },
+};
+/// A server line has no place in a frame table.
+const FRAME: Form = Form {
+    kinds: &[("tick", 1), ("server", 7), ("task", 3)],
+    may_follow: |before, word| matches!((before, word), ("", "tick") | ("tick" | "task", "task")),
+};
 
-/// The leading word of a line if it is one.
-fn word_of(line: &[u8]) -> &'static str {
-    let line = line.strip_suffix(b"\n").unwrap_or(line);
-    let first = line.split(|&byte| byte == b'\t').next().unwrap_or(b"");
-    KINDS.iter().map(|(word, _)| *word).find(|word| word.as_bytes() == first).unwrap_or("strange")
+impl Form {
+    /// Why a line is 1 as a line. The lines before it are good.
+    fn cause_of_1(&self, table: &[u8], number: usize) -> String {
+        let lines: Vec<&[u8]> = lines_of(table).collect();
+        let Some(line) = lines.get(number - 1) else { return "missing line".to_string() };
+        let Some(line) = line.strip_suffix(b"\n") else { return "unclosed line".to_string() };
+        let word = self.word_of(line);
+        let Some(&(_, count)) = self.kinds.iter().find(|(kind, _)| *kind == word) else {
+            return "leading word".to_string();
+        };
+        let before = if number > 1 { self.word_of(lines[number - 2]) } else { "" };
+        let fields = line.iter().filter(|&&byte| byte == b'\t').count();
+        if !(self.may_follow)(before, word) {
+            format!("misplaced {word} line")
+        } else if fields < count {
+            format!("too few fields of a {word} line")
+        } else {
+            format!("too many fields of a {word} line")
+        }
+    }
+
+    /// The leading word of a line if it is one.
+    fn word_of(&self, line: &[u8]) -> &'static str {
+        let line = line.strip_suffix(b"\n").unwrap_or(line);
+        let first = line.split(|&byte| byte == b'\t').next().unwrap_or(b"");
+        let mut words = self.kinds.iter().map(|(word, _)| *word);
+        words.find(|word| word.as_bytes() == first).unwrap_or("strange")
+    }
 }
 
 /// What a damage with two faults is after, by its name.
@@ -603,17 +694,21 @@ fn kind_of(letter: u8) -> usize {
 
 #[cfg(test)]
 mod tests {
-    use super::{cause_of_1, made, Coverage, MADE};
+    use super::{made, Coverage, FRAME, FRAME_MADE, MADE, TABLE};
     use crate::case::Case;
 
     #[test]
     fn the_default_cases_make_every_pair_of_faults() {
         let mut coverage = Coverage::default();
         for number in 0..2000 {
-            coverage.case(&Case::make(1, number).name, b"");
+            let case = Case::make(1, number);
+            coverage.case(&case.name, b"");
+            if let Some(frame) = &case.frame {
+                coverage.frame(frame, b"table\tno\t2\t0\t0\n");
+            }
         }
-        for what in MADE {
-            assert!(coverage.counts.contains_key(what), "{what}");
+        for what in MADE.iter().chain(&FRAME_MADE) {
+            assert!(coverage.counts.contains_key(*what), "{what}");
         }
     }
 
@@ -693,7 +788,17 @@ mod tests {
             (format!("tick\t1\n{server}task\t0\n"), 3, "too few fields of a task line"),
         ];
         for (text, line, cause) in causes {
-            assert_eq!(cause_of_1(text.as_bytes(), line), cause, "{text:?}");
+            assert_eq!(TABLE.cause_of_1(text.as_bytes(), line), cause, "{text:?}");
+        }
+        let causes = [
+            ("tick\t1\n", 2, "missing line"),
+            ("tick\t1\ntask\t0\t1\n", 2, "too few fields of a task line"),
+            ("tick\t1\nserver\t0\t1\t1\n", 2, "misplaced server line"),
+            ("task\t0\t1\t1\n", 1, "misplaced task line"),
+            ("tick\t1\ntick\t1\n", 2, "misplaced tick line"),
+        ];
+        for (text, line, cause) in causes {
+            assert_eq!(FRAME.cause_of_1(text.as_bytes(), line), cause, "{text:?}");
         }
     }
 }

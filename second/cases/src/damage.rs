@@ -8,8 +8,8 @@ use crate::random::Random;
 use crate::table::{self, text_of, Line, Table, MAX_LIMIT, MAX_PERIOD, MAX_TICK};
 
 /// The most bytes a table text may have.
-const MAX_TEXT: usize = 16_384;
-const ELEVEN_DIGITS: u64 = 99_999_999_999;
+pub const MAX_TEXT: usize = 16_384;
+pub const ELEVEN_DIGITS: u64 = 99_999_999_999;
 
 /// A damaged table text and the name of the damage.
 pub fn damaged(random: &mut Random) -> (Vec<u8>, String) {
@@ -155,7 +155,7 @@ impl Draft {
     fn put(&mut self, fault: Fault, place: Place, random: &mut Random) -> String {
         let Fault { number, field } = fault;
         let how = match (number, field) {
-            (1, 0) => self.malform_line(place, None, random),
+            (1, 0) => malform_line(self.line(place), None, random),
             (1, _) => self.malform_field(place, field, random),
             (2, _) => self.out_of_bounds(place, field, random),
             (3, _) => self.not_whole(place, field, random),
@@ -176,7 +176,7 @@ impl Draft {
         }
         if left.field == 0 {
             let right_name = self.put(right, place, random);
-            let how = self.malform_line(place, Some(right.field), random);
+            let how = malform_line(self.line(place), Some(right.field), random);
             return [fault_name(left, place, how), right_name];
         }
         // The greater numbers change several fields, a malformed field is not
@@ -190,109 +190,12 @@ impl Draft {
         }
     }
 
-    /// 1 as 0: the line loses its leading word or has another count of fields,
-    /// one field being kept.
-    fn malform_line(
-        &mut self,
-        place: Place,
-        keep: Option<usize>,
-        random: &mut Random,
-    ) -> &'static str {
-        let line = self.line(place);
-        let fields = line.len() - 1;
-        match random.below(9) {
-            0 | 1 => {
-                // Any field but the one kept.
-                let others: Vec<usize> =
-                    (1..=fields).filter(|&field| Some(field) != keep).collect();
-                line.remove(if others.is_empty() { fields } else { random.pick(&others) });
-                "field-missing"
-            }
-            2 => {
-                let kept = keep.unwrap_or(0).min(fields - 1) as u64;
-                line.truncate(random.within(1 + kept, fields as u64) as usize);
-                "fields-missing"
-            }
-            3 => {
-                line.insert(random.within(1, fields as u64) as usize, b"1".to_vec());
-                "field-more"
-            }
-            4 => {
-                line.push(Vec::new());
-                "tab-at-end"
-            }
-            5 => {
-                let more = random.within(1, 12) as usize;
-                line.extend(vec![b"0".to_vec(); more]);
-                "fields-more"
-            }
-            6 => {
-                line.insert(0, Vec::new());
-                "tab-at-start"
-            }
-            7 if keep.is_none() => {
-                *line = Vec::new();
-                "line-empty"
-            }
-            _ => {
-                let words: [&[u8]; 11] = [
-                    b"",
-                    b"Tick",
-                    b"SERVER",
-                    b"tasks",
-                    b"servers",
-                    b"tas",
-                    b"tick ",
-                    b" server",
-                    b"\xef\xbb\xbftick",
-                    b"#",
-                    b"job",
-                ];
-                line[0] = random.pick(&words).to_vec();
-                "first-word"
-            }
-        }
-    }
-
     /// 1: a field loses its form.
     fn malform_field(&mut self, place: Place, field: usize, random: &mut Random) -> &'static str {
         if place.word_field() == Some(field) {
             return self.unknown_word(place, field, random);
         }
-        let own = self.line(place)[field].clone();
-        let with_prefix = |prefix: &[u8]| [prefix, &own].concat();
-        let with_suffix = |suffix: &[u8]| [&own, suffix].concat();
-        let (text, how) = match random.below(18) {
-            0 => (Vec::new(), "number-empty"),
-            1 => (with_prefix(b"0"), "leading-zero"),
-            2 => (b"00".to_vec(), "two-zeros"),
-            3 => (with_prefix(b"+"), "plus"),
-            4 => (with_prefix(b"-"), "minus"),
-            5 => (with_prefix(b" "), "space-before"),
-            6 => (with_suffix(b" "), "space-after"),
-            7 => (with_suffix(b"\r"), "carriage-return"),
-            8 => (with_suffix(b"\0"), "nul"),
-            9 => (random.pick(&[b"100000000000", b"999999999999"]).to_vec(), "12-digits"),
-            10 => {
-                let zeros = 12 - own.len().min(11);
-                (with_prefix(&vec![b'0'; zeros]), "zeros-to-12-digits")
-            }
-            11 => (with_suffix(&random.pick(&[*b"a", *b"x", *b"_", *b".", *b","])), "letter"),
-            12 => (with_suffix(b".0"), "point"),
-            13 => (with_suffix("\u{0663}".as_bytes()), "other-digit"),
-            14 => (with_prefix(b"\xff"), "byte-ff"),
-            15 => (vec![b'7'; random.within(13, 400) as usize], "many-digits"),
-            16 => {
-                let value: u128 = String::from_utf8_lossy(&own).parse().unwrap_or(1);
-                ((value + (1 << 64)).to_string().into_bytes(), "round-64-bits")
-            }
-            _ => {
-                let texts: [&[u8]; 4] = [b"/", b":", b"0x1", b"1e3"];
-                (random.pick(&texts).to_vec(), "not-a-digit")
-            }
-        };
-        self.line(place)[field] = text;
-        how
+        malform_number(&mut self.line(place)[field], random)
     }
 
     fn unknown_word(&mut self, place: Place, field: usize, random: &mut Random) -> &'static str {
@@ -558,6 +461,101 @@ impl Draft {
             self.set(place(other), 3, 100);
         }
     }
+}
+
+/// 1 as 0: the line loses its leading word or has another count of fields,
+/// one field being kept.
+pub fn malform_line(line: &mut Line, keep: Option<usize>, random: &mut Random) -> &'static str {
+    let fields = line.len() - 1;
+    match random.below(9) {
+        0 | 1 => {
+            // Any field but the one kept.
+            let others: Vec<usize> = (1..=fields).filter(|&field| Some(field) != keep).collect();
+            line.remove(if others.is_empty() { fields } else { random.pick(&others) });
+            "field-missing"
+        }
+        2 => {
+            let kept = keep.unwrap_or(0).min(fields - 1) as u64;
+            line.truncate(random.within(1 + kept, fields as u64) as usize);
+            "fields-missing"
+        }
+        3 => {
+            line.insert(random.within(1, fields as u64) as usize, b"1".to_vec());
+            "field-more"
+        }
+        4 => {
+            line.push(Vec::new());
+            "tab-at-end"
+        }
+        5 => {
+            let more = random.within(1, 12) as usize;
+            line.extend(vec![b"0".to_vec(); more]);
+            "fields-more"
+        }
+        6 => {
+            line.insert(0, Vec::new());
+            "tab-at-start"
+        }
+        7 if keep.is_none() => {
+            *line = Vec::new();
+            "line-empty"
+        }
+        _ => {
+            let words: [&[u8]; 11] = [
+                b"",
+                b"Tick",
+                b"SERVER",
+                b"tasks",
+                b"servers",
+                b"tas",
+                b"tick ",
+                b" server",
+                b"\xef\xbb\xbftick",
+                b"#",
+                b"job",
+            ];
+            line[0] = random.pick(&words).to_vec();
+            "first-word"
+        }
+    }
+}
+
+/// 1: a number loses its form.
+pub fn malform_number(field: &mut Vec<u8>, random: &mut Random) -> &'static str {
+    let own = field.clone();
+    let with_prefix = |prefix: &[u8]| [prefix, &own].concat();
+    let with_suffix = |suffix: &[u8]| [&own, suffix].concat();
+    let (text, how) = match random.below(18) {
+        0 => (Vec::new(), "number-empty"),
+        1 => (with_prefix(b"0"), "leading-zero"),
+        2 => (b"00".to_vec(), "two-zeros"),
+        3 => (with_prefix(b"+"), "plus"),
+        4 => (with_prefix(b"-"), "minus"),
+        5 => (with_prefix(b" "), "space-before"),
+        6 => (with_suffix(b" "), "space-after"),
+        7 => (with_suffix(b"\r"), "carriage-return"),
+        8 => (with_suffix(b"\0"), "nul"),
+        9 => (random.pick(&[b"100000000000", b"999999999999"]).to_vec(), "12-digits"),
+        10 => {
+            let zeros = 12 - own.len().min(11);
+            (with_prefix(&vec![b'0'; zeros]), "zeros-to-12-digits")
+        }
+        11 => (with_suffix(&random.pick(&[*b"a", *b"x", *b"_", *b".", *b","])), "letter"),
+        12 => (with_suffix(b".0"), "point"),
+        13 => (with_suffix("\u{0663}".as_bytes()), "other-digit"),
+        14 => (with_prefix(b"\xff"), "byte-ff"),
+        15 => (vec![b'7'; random.within(13, 400) as usize], "many-digits"),
+        16 => {
+            let value: u128 = String::from_utf8_lossy(&own).parse().unwrap_or(1);
+            ((value + (1 << 64)).to_string().into_bytes(), "round-64-bits")
+        }
+        _ => {
+            let texts: [&[u8]; 4] = [b"/", b":", b"0x1", b"1e3"];
+            (random.pick(&texts).to_vec(), "not-a-digit")
+        }
+    };
+    *field = text;
+    how
 }
 
 fn fault_name(fault: Fault, place: Place, how: &str) -> String {

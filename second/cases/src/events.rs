@@ -48,6 +48,34 @@ pub fn longest_events(serving: bool, tasks: usize, random: &mut Random) -> Vec<u
     lines_of(lines, odd, Habits { long_lines: false, longest_calm }, tasks, random)
 }
 
+/// An event file for a frame table, of 30 to 300 lines, or an empty one.
+pub fn frame_events(tasks: usize, random: &mut Random) -> Vec<u8> {
+    if random.chance(3) {
+        return Vec::new();
+    }
+    let lines = random.within(30, 200);
+    let odd = random.pick(&[0, 0, 1, 2, 5, 20]);
+    lines_of(lines, odd, Habits { long_lines: random.chance(4), longest_calm: 40 }, tasks, random)
+}
+
+/// An event file of so many lines or more, in which more than so many ticks are
+/// taken, whatever the table is.
+pub fn events_of_ticks(ticks: usize, lines: u64, tasks: usize, random: &mut Random) -> Vec<u8> {
+    let odd = random.pick(&[0, 0, 2, 10]);
+    let habits = Habits { long_lines: false, longest_calm: random.pick(&[0, 30, 30, 120]) };
+    let mut text = Vec::new();
+    push_phases(&mut text, lines, odd, habits, tasks, random);
+    while sure_ticks(&text) <= ticks {
+        push_phases(&mut text, 100, odd, habits, tasks, random);
+    }
+    text
+}
+
+/// The ticks with mark 0, which are taken in any state an event file can reach.
+pub fn sure_ticks(events: &[u8]) -> usize {
+    events.split(|&byte| byte == b'\n').filter(|line| *line == b"T\t0").count()
+}
+
 /// What only some event files have.
 #[derive(Clone, Copy)]
 struct Habits {
@@ -61,33 +89,44 @@ struct Habits {
 /// An event file of so many lines, or some more.
 fn lines_of(lines: u64, odd: u64, habits: Habits, tasks: usize, random: &mut Random) -> Vec<u8> {
     let mut text = Vec::new();
+    push_phases(&mut text, lines, odd, habits, tasks, random);
+    if random.chance(15) {
+        text.pop();
+    }
+    text
+}
+
+fn push_phases(
+    text: &mut Vec<u8>,
+    lines: u64,
+    odd: u64,
+    habits: Habits,
+    tasks: usize,
+    random: &mut Random,
+) {
     let mut written = 0;
     while written < lines {
         if random.chance(10) {
             // More releases of one task than can wait.
             let task = random.below(tasks);
             for _ in 0..random.within(12, 20) {
-                push_release(&mut text, task as u64);
+                push_release(text, task as u64);
                 written += 1;
             }
         }
         let phase = draw_phase(tasks, odd, random);
         for _ in 0..random.within(10, 80) {
-            push_line(&mut text, &phase, tasks, habits.long_lines, random);
+            push_line(text, &phase, tasks, habits.long_lines, random);
             written += 1;
         }
         if habits.longest_calm > 0 && random.chance(40) {
             let calm = Phase { release: 0, mark: 60, odd, favourite: None };
             for _ in 0..random.within(habits.longest_calm / 6, habits.longest_calm) {
-                push_line(&mut text, &calm, tasks, habits.long_lines, random);
+                push_line(text, &calm, tasks, habits.long_lines, random);
                 written += 1;
             }
         }
     }
-    if random.chance(15) {
-        text.pop();
-    }
-    text
 }
 
 /// A few lines, for tables that are refused anyway.

@@ -8,6 +8,10 @@ mod coverage;
 mod damage;
 mod events;
 mod fit;
+mod frame;
+mod frame_block;
+mod frame_damage;
+mod frame_seen;
 mod judged;
 mod random;
 mod states;
@@ -16,22 +20,27 @@ mod unsound;
 
 use std::collections::BTreeMap;
 use std::fs;
+use std::io;
 use std::path::{Path, PathBuf};
 use std::process::ExitCode;
 
 use case::Case;
+use frame::FrameCase;
 use random::Random;
 
 const USAGE: &str = "usage:
   cases compare FIRST SECOND [--seed S] [--count N] [--long L] [--keep DIR] [--threads T]
+                [--only PROGRAM]
   cases states FIRST SECOND [--seed S] [--count N] [--keep DIR]
   cases make --seed S --number K --out DIR
   cases big --lines N --servers A --tasks B [--seed S] --out DIR
-FIRST is a folder with executables night, report, verdicts, fits and rewrite, and
-for states one states; SECOND is the binary second. Without --seed and --count:
+  cases big frame --lines N --tasks B [--seed S] --out DIR
+FIRST is a folder with executables night, report, verdicts, fits, rewrite and frame,
+and for states one states; SECOND is the binary second. Without --seed and --count:
 seed 1, 2000 cases or blocks. L long nights follow the N cases, their numbers K
 from 1000000000 on, one in 20 of them of 80000 to 120000 lines or some more, the
-others of up to 20000; without --long none does.";
+others of up to 20000; without --long none does. With --only one program is run, and
+nothing has to be seen.";
 
 fn main() -> ExitCode {
     match choose(std::env::args().skip(1).collect()) {
@@ -57,6 +66,7 @@ fn choose(arguments: Vec<String>) -> Result<bool, String> {
                 count: arguments.number("--count", Some(2000))?,
                 long: arguments.number("--long", Some(0))?,
                 keep: arguments.options.remove("--keep").map(PathBuf::from),
+                only: arguments.options.remove("--only"),
                 threads: arguments.number("--threads", Some(2))?.clamp(1, 16),
             };
             arguments.finish()?;
@@ -80,7 +90,10 @@ fn choose(arguments: Vec<String>) -> Result<bool, String> {
             arguments.finish()?;
             let case = Case::make(seed, number);
             println!("{}", case.name);
-            write_case(&case, &out)
+            if let Some(frame) = &case.frame {
+                println!("frame-{}", frame.name);
+            }
+            write_to(&out, |folder| case.write_to(folder))
         }
         ["big"] => {
             let lines = arguments.number("--lines", None)?;
@@ -97,16 +110,35 @@ fn choose(arguments: Vec<String>) -> Result<bool, String> {
                 name: "big".to_string(),
                 table: big::table_text(servers, tasks),
                 events: big::events(lines, tasks, &mut Random::new(seed)),
+                frame: None,
             };
-            write_case(&case, &out)
+            write_to(&out, |folder| case.write_to(folder))
+        }
+        ["big", "frame"] => {
+            let lines = arguments.number("--lines", None)?;
+            let tasks = arguments.number("--tasks", None)?;
+            let seed = arguments.number("--seed", Some(1))?;
+            let out = arguments.path("--out")?;
+            arguments.finish()?;
+            if !(1..=64).contains(&tasks) {
+                return Err("1 to 64 tasks".to_string());
+            }
+            let tasks = tasks as usize;
+            let frame = FrameCase {
+                name: "big".to_string(),
+                table: big::frame_table_text(tasks),
+                events: big::events(lines, tasks, &mut Random::new(seed)),
+            };
+            write_to(&out, |folder| frame.write_to(folder))
         }
         _ => Err(USAGE.to_string()),
     }
 }
 
-fn write_case(case: &Case, out: &Path) -> Result<bool, String> {
+/// Makes the folder and writes files into it.
+fn write_to(out: &Path, write: impl Fn(&Path) -> io::Result<()>) -> Result<bool, String> {
     fs::create_dir_all(out)
-        .and_then(|()| case.write_to(out))
+        .and_then(|()| write(out))
         .map_err(|error| format!("cannot write to {}: {error}", out.display()))?;
     Ok(true)
 }

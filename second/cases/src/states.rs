@@ -8,6 +8,7 @@ use std::process::{Command, Output, Stdio};
 
 use crate::block::{Block, Operation};
 use crate::fit::{self, Page};
+use crate::frame_block::{self, FrameBlock};
 use crate::judged::{self, Judged, LEVELS, MODES};
 use crate::random::Random;
 use crate::table;
@@ -19,6 +20,9 @@ const BLOCKS_IN_FILE: u64 = 200;
 /// The last of so many blocks asks whether a table fits, with a clause broken, by
 /// turns.
 const IN_TURN_EVERY: u64 = 20;
+
+/// One of so many blocks is a frame block, which is the third of them.
+const FRAME_EVERY: u64 = 5;
 
 /// The counts that must not be 0, beside those of step 1, those of tables that fit
 /// or miss, and those for each clause broken.
@@ -81,10 +85,32 @@ pub struct Options {
     pub keep: Option<PathBuf>,
 }
 
+/// A block of either kind.
+enum Asked {
+    Table(Block),
+    Frame(FrameBlock),
+}
+
+impl Asked {
+    fn name(&self) -> &str {
+        match self {
+            Asked::Table(block) => &block.name,
+            Asked::Frame(block) => &block.name,
+        }
+    }
+
+    fn must_be_13(&self) -> bool {
+        match self {
+            Asked::Table(block) => block.must_be_13(),
+            Asked::Frame(block) => block.must_be_13(),
+        }
+    }
+}
+
 /// A block of a file, as it was made.
 struct Made {
     number: u64,
-    block: Block,
+    block: Asked,
     text: String,
     /// The page of verdicts, where it is asked whether the table fits.
     page: Option<Page>,
@@ -122,6 +148,11 @@ pub fn compare(options: &Options) -> Result<bool, String> {
 fn make(seed: u64, number: u64) -> Made {
     let mut random = Random::for_case(seed, number);
     let random = &mut random;
+    if number % FRAME_EVERY == 2 {
+        let block = frame_block::in_turn((number / FRAME_EVERY) as usize, random);
+        let text = block.text(random);
+        return Made { number, block: Asked::Frame(block), text, page: None };
+    }
     let mut block = if number % IN_TURN_EVERY == IN_TURN_EVERY - 1 {
         unsound::in_turn((number / IN_TURN_EVERY) as usize, random)
     } else {
@@ -129,7 +160,7 @@ fn make(seed: u64, number: u64) -> Made {
     };
     block.pad(random);
     let text = block.text(random);
-    Made { number, block, text, page: None }
+    Made { number, block: Asked::Table(block), text, page: None }
 }
 
 fn any_block(random: &mut Random) -> Block {
@@ -162,9 +193,12 @@ fn compare_file(
     let mut made: Vec<Made> = (from..to).map(|number| make(options.seed, number)).collect();
     let mut text = String::new();
     for Made { number, block, text: lines, page } in &mut made {
-        text += &format!("# block {number} {}\n{lines}\n", block.name);
-        if block.operation.is_fits() && !block.must_be_13() {
-            *page = page_of(options, folder, block)?;
+        text += &format!("# block {number} {}\n{lines}\n", block.name());
+        match block {
+            Asked::Table(block) if block.operation.is_fits() && !block.must_be_13() => {
+                *page = page_of(options, folder, block)?;
+            }
+            _ => {}
         }
     }
     let file = folder.join("blocks");
@@ -202,13 +236,18 @@ fn compare_answers(seed: u64, made: &[Made], first: &[u8], second: &[u8], totals
     let (mut ones, mut others) = (answers(first).into_iter(), answers(second).into_iter());
     for Made { number, block, page, .. } in made {
         let (one, other) = (ones.next(), others.next());
-        totals.see(block, other);
-        totals.see_page(block, page.as_ref());
+        match block {
+            Asked::Table(block) => {
+                totals.see(block, other);
+                totals.see_page(block, page.as_ref());
+            }
+            Asked::Frame(block) => totals.see_frame(block, other),
+        }
         match difference(block, page.as_ref(), one, other) {
             None => totals.passed += 1,
             Some(words) => {
                 totals.failed += 1;
-                println!("seed {seed} block {number} {} differs\n  {words}", block.name);
+                println!("seed {seed} block {number} {} differs\n  {words}", block.name());
             }
         }
     }
@@ -273,7 +312,7 @@ fn first_line(text: &[u8]) -> &[u8] {
 }
 
 fn is_state_line(line: &[u8]) -> bool {
-    [&b"state\t"[..], b"budget\t", b"queue\t"].iter().any(|word| line.starts_with(word))
+    [&b"state\t"[..], b"box\t", b"budget\t", b"queue\t"].iter().any(|word| line.starts_with(word))
 }
 
 /// The numbers of a line that begins with the word.
@@ -289,7 +328,7 @@ fn numbers_of(line: &[u8], word: &[u8]) -> Option<Vec<u64>> {
 /// The first difference in words: between the two, or from the 13 that a broken
 /// block must bring and no other may, or from the page of verdicts.
 fn difference(
-    block: &Block,
+    block: &Asked,
     page: Option<&Page>,
     first: Option<&[u8]>,
     second: Option<&[u8]>,
@@ -373,6 +412,15 @@ impl Totals {
         }
     }
 
+    /// Counts what was answered to a frame block.
+    fn see_frame(&mut self, block: &FrameBlock, answer: Option<&[u8]>) {
+        let line = first_line(answer.unwrap_or_default());
+        let (no, tick) = (numbers_of(line, b"no"), numbers_of(line, b"tick"));
+        for name in block.names(no.as_deref(), tick.as_deref()) {
+            self.count(&name);
+        }
+    }
+
     /// Counts what is to be seen of tables that fit or miss, and how the mode of
     /// the state lies to the one told.
     fn see_page(&mut self, block: &Block, page: Option<&Page>) {
@@ -425,15 +473,13 @@ impl Totals {
     /// Prints all counts; gives whether none of the wanted is 0.
     fn print(&self) -> bool {
         println!("seen in the answers:");
-        let mut wanted: Vec<String> = [&WANTED[..], &judged::WANTED[..], &fit::WANTED[..]]
-            .concat()
-            .into_iter()
-            .map(String::from)
-            .collect();
+        let seen = [&WANTED[..], &judged::WANTED[..], &fit::WANTED[..], &frame_block::WANTED[..]];
+        let mut wanted: Vec<String> = seen.concat().into_iter().map(String::from).collect();
         wanted.extend(unsound::names().map(broken));
         wanted.extend(unsound::table_names().map(|name| format!("fits, {}", broken(name))));
         wanted.extend(unsound::state_names().map(beside));
         wanted.extend(unsound::names().map(|name| format!("fits_state, {}", broken(name))));
+        wanted.extend(frame_block::broken_names());
         let mut complete = true;
         for what in &wanted {
             let count = self.seen.get(what).copied().unwrap_or(0);
@@ -470,7 +516,7 @@ mod tests {
     fn a_block_is_the_same_every_time() {
         for number in 0..500 {
             let (one, other) = (make(5, number), make(5, number));
-            assert_eq!(one.block.name, other.block.name);
+            assert_eq!(one.block.name(), other.block.name());
             assert_eq!(one.text, other.text);
         }
     }

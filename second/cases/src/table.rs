@@ -74,7 +74,7 @@ impl Table {
     }
 }
 
-fn line_of(fields: &[&dyn std::fmt::Display]) -> Line {
+pub fn line_of(fields: &[&dyn std::fmt::Display]) -> Line {
     fields.iter().map(|field| field.to_string().into_bytes()).collect()
 }
 
@@ -277,14 +277,19 @@ fn highest_row(servers: &[Server]) -> usize {
     (0..servers.len()).max_by_key(|&row| servers[row].priority).unwrap_or(0)
 }
 
-fn draw(shape: &Shape, random: &mut Random) -> Table {
-    let tick = match random.below(10) {
+/// A tick length, often a plain one or at a bound.
+pub fn draw_tick(random: &mut Random) -> u64 {
+    match random.below(10) {
         0 | 1 => 1,
         2 => MAX_TICK,
         3..=5 => 1000,
         6 => random.pick(&[2, 3, 7, 10]),
         _ => random.within(1, MAX_TICK),
-    };
+    }
+}
+
+fn draw(shape: &Shape, random: &mut Random) -> Table {
+    let tick = draw_tick(random);
 
     let mut servers = Vec::new();
     let priorities = draw_priorities(shape.servers, random);
@@ -324,7 +329,7 @@ fn draw(shape: &Shape, random: &mut Random) -> Table {
     Table { tick, servers, tasks }
 }
 
-fn draw_priorities(count: usize, random: &mut Random) -> Vec<u64> {
+pub fn draw_priorities(count: usize, random: &mut Random) -> Vec<u64> {
     let greatest = if random.chance(50) { MAX_PRIORITY } else { count.max(10) as u64 };
     random.different(count, greatest)
 }
@@ -364,7 +369,7 @@ fn draw_times(longest: u64, tick: u64, random: &mut Random) -> [u64; 3] {
 }
 
 /// A time that rounds up to the limit.
-fn rough(limit: u64, tick: u64, random: &mut Random) -> u64 {
+pub fn rough(limit: u64, tick: u64, random: &mut Random) -> u64 {
     (limit - 1) * tick + random.within(1, tick)
 }
 

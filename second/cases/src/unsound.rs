@@ -319,13 +319,13 @@ fn look_at_state(block: &mut Block, random: &mut Random) {
     };
 }
 
-fn set(field: &mut u64, value: u64) -> bool {
+pub fn set(field: &mut u64, value: u64) -> bool {
     *field = value;
     true
 }
 
 /// A number of 32 bits above a bound, often the next.
-fn above(bound: u64, random: &mut Random) -> u64 {
+pub fn above(bound: u64, random: &mut Random) -> u64 {
     if bound >= MAX_FIELD {
         return MAX_FIELD; // a fault before has set the bound itself so high
     }
@@ -337,7 +337,7 @@ fn above(bound: u64, random: &mut Random) -> u64 {
 }
 
 /// The same for a field of 8 bits.
-fn above_byte(bound: u64, random: &mut Random) -> u64 {
+pub fn above_byte(bound: u64, random: &mut Random) -> u64 {
     match random.below(4) {
         0 | 1 => bound + 1,
         2 => random.within(bound + 1, MAX_BYTE),
@@ -345,7 +345,7 @@ fn above_byte(bound: u64, random: &mut Random) -> u64 {
     }
 }
 
-fn two_rows(rows: usize, random: &mut Random) -> Option<(usize, usize)> {
+pub fn two_rows(rows: usize, random: &mut Random) -> Option<(usize, usize)> {
     if rows < 2 {
         return None;
     }
