@@ -1,5 +1,5 @@
 -- The highest marked row: what it is, and how a walk over the rows finds it. Assumes nothing.
-use mathlib.Core.Path.{_≡_, refl, sym}
+use mathlib.Core.Path.{_≡_, refl, sym, _∙_}
 use mathlib.Core.Bool.{Bool, true, false, not, _&&_}
 use mathlib.Core.Logic.{_⊎_, inl, inr, _↔_}
 use Prim.Native.Nat.{ℕ, zero, suc, _+_, _≤_, _<_}
@@ -229,3 +229,21 @@ module _ (n : ℕ) (marked : ℕ → Bool) (priority : ℕ → ℕ)
         (picked-is marked priority n Nothing
         (λ j l. elim (true-or-false (marked j)) [ inl e ↦ absurd (f j (is j .1 (l, e))) | inr e ↦ e ])),
   )
+
+-- The highest rests on the rows below n alone.
+pub highest-cong : (n : ℕ) (p q : ℕ → Bool) (priority : ℕ → ℕ) → ((i : ℕ) → i < n → p i ≡ q i) →
+    highest n p priority ≡ highest n q priority
+highest-cong n p q priority e = go (highest n p priority) refl
+  where
+    go : (a : Found) → highest n p priority ≡ a → highest n p priority ≡ highest n q priority
+    go (At i) f =
+        let s = highest-at p priority n i f in
+        f
+        ∙ picked-is q priority n (At i)
+        (record {
+          below = s .below;
+          is = sym (e i (s .below)) ∙ s .is;
+          top = λ j l m. s .top j l (e j l ∙ m);
+          first = λ j l m. s .first j l (e j (omega (arith, s .below)) ∙ m);
+        })
+    go Nothing f = f ∙ picked-is q priority n Nothing (λ j l. sym (e j l) ∙ highest-none p priority n f j l)

@@ -27,7 +27,7 @@ use Rattle.text.specs.Read.{compared, ended, read, shown}
 use Rattle.events.specs.declared.Event.{Event}
 use Rattle.events.specs.declared.Event.the-variants.{Release, Tick}
 use Rattle.events.specs.Boxes.{afterIn, answersIn}
-use Rattle.run.specs.State.{waits, someWaits}
+use Rattle.run.specs.State.{inForce, waits, someWaits}
 use Rattle.run.specs.Sound.{sound, soundState, soundServer, soundTask, soundLast, soundCounts}
 use Rattle.run.specs.Release.{freshRun, releaseOf}
 use Rattle.run.specs.Tick.{judge, step1, drops, discards, step2, step3, step4, settle, able, highestAble, highestTask}
@@ -80,7 +80,7 @@ unfolding
     digits split join closed same tableOf tableKeeps keeps serverKeeps taskKeeps taskFault taskStands differ laterEqual
     firstPair tickWord serverWord taskWord eventWord timedWord loWord miWord hiWord tickForm serverForm
     taskForm fieldTests formTests lineBy lineOf readLine placed serverBounds taskBounds bounds serverWhole wholes fault standing grown
-    compared ended read shown waits someWaits
+    compared ended read shown inForce waits someWaits
     sound soundState soundServer soundTask soundLast soundCounts releaseOf judge step1
     drops discards step2 step3 step4 settle able highestAble highestTask choose advance tickTaken tickOf afterIn
     answersIn overAll discardedOf takenTicks releaseForm tickLineForm eventSaid eventLine closedLines eventLines example

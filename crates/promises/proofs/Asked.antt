@@ -8,12 +8,12 @@ use mathlib.Core.Logic.{_⊎_, inl, inr, _↔_, Iff·rfl, Iff·trans, Iff·and}
 use Prim.Native.Nat.{ℕ, zero, suc, _+_, _*_, _%_, _≤_, _<_}
 use native.Mathlib.Omega.{arith}
 use native.Mathlib.Nat.{add-zero}
-use lib.Dec.{leb, ltb, eqb}
+use lib.Dec.{leb, ltb, eqb, leb·suc-suc}
 use lib.ListN.{length, getD}
-use borrow.Author.Tests.{eqb-true, eq-eqb}
+use borrow.Author.Tests.{eqb-true, eq-eqb, lt-ltb, le-ltb}
 use Rattle.laws.specs.declared.Found.{Found}
 use Rattle.laws.specs.declared.Found.the-variants.{At, Nothing}
-use Rattle.laws.specs.Choice.{unless_say_else_, within}
+use Rattle.laws.specs.Choice.{if_then_else_, unless_say_else_, within}
 use Rattle.laws.specs.Search.{firstFailed}
 use Rattle.laws.proofs.Choice.{clash, true-or-false, and-left, and-right, or-true-left}
 use Rattle.laws.proofs.Choice.{or-true-right, or-cases}
@@ -43,7 +43,7 @@ use Rattle.text.specs.Words.{eventWord, timedWord, isKind, loWord, miWord, hiWo
 use Rattle.text.specs.Line.{Expected, fits, Form, tickForm, serverForm, taskForm}
 use Rattle.text.specs.Line.{fieldTests, formTests, fieldAt, microsAt, serverSaid, taskSaid, leading}
 use Rattle.text.specs.Line.{wordOf, malformedAt, saidUnless, formed, lineBy, lineOf, readLine}
-use Rattle.text.specs.Standing.{isNil, limitsOf, placed, serverBounds, taskBounds, bounds}
+use Rattle.text.specs.Standing.{isNil, phaseSaid, limitsOf, placed, serverBounds, taskBounds, bounds}
 use Rattle.text.specs.Standing.{serverWhole, wholes, fault, tell_at_or_, standing}
 use Rattle.promises.specs.Condition1.{Asked, no_at_unless_, Tells, Gives, IsNumber, IsKind}
 use Rattle.promises.specs.Condition1.{IsLevel, kindAt, partitionAt, faultAsked, askedBy}
@@ -138,52 +138,79 @@ asked : (why : Refusal) {bs : List Bool} {qs rs : List {1} Asked} {r : Standing}
 asked why {bs} {qs} {rs} {r} ts f =
     rw (tell-first why (firstFailed bs) r, one-by-one why 0 bs r) (asked-from why ts f)
 
--- Fields, each by its place, where there are as many as expected.
-abbrev expectedFrom : List Expected → ℕ → List (List ℕ) → List Bool
-expectedFrom [] k fs = []
-expectedFrom (e ∷ es) k fs = fits e (getD fs k []) ∷ expectedFrom es (suc k) fs
+-- Fields from place k on, each by its place: the first m of them must be there, and of one after
+-- them something is asked where it is.
+abbrev whereThere : Expected → ℕ → List (List ℕ) → Bool
+whereThere e k fs = if ltb k (length fs) then fits e (getD fs k []) else true
 
-next-expected : (es : List Expected) (k : ℕ) (f : List ℕ) (fs : List (List ℕ)) →
-    expectedFrom es (suc k) (f ∷ fs) ≡ expectedFrom es k fs
-next-expected [] k f fs = refl
-next-expected (e ∷ es) k f fs =
-    ap (λ bs. fits e (getD fs k []) ∷ bs) (next-expected es (suc k) f fs)
+abbrev expectedFrom : ℕ → List Expected → ℕ → List (List ℕ) → List Bool
+expectedFrom m [] k fs = []
+expectedFrom zero (e ∷ es) k fs = whereThere e k fs ∷ expectedFrom zero es (suc k) fs
+expectedFrom (suc m) (e ∷ es) k fs = fits e (getD fs k []) ∷ expectedFrom m es (suc k) fs
 
-by-place : (es : List Expected) (fs : List (List ℕ)) → length fs ≡ length es →
-    fieldTests es fs ≡ expectedFrom es 0 fs
+next-expected : (m : ℕ) (es : List Expected) (k : ℕ) (f : List ℕ) (fs : List (List ℕ)) →
+    expectedFrom m es (suc k) (f ∷ fs) ≡ expectedFrom m es k fs
+next-expected m [] k f fs = refl
+next-expected zero (e ∷ es) k f fs =
+    rw (leb·suc-suc (suc k) (length fs))
+    (ap (λ bs. whereThere e k fs ∷ bs) (next-expected zero es (suc k) f fs))
+next-expected (suc m) (e ∷ es) k f fs =
+    ap (λ bs. fits e (getD fs k []) ∷ bs) (next-expected m es (suc k) f fs)
+
+-- of none nothing is asked
+none-there : (es : List Expected) (k : ℕ) → firstFailed (expectedFrom 0 es k []) ≡ Nothing
+none-there [] k = failed-empty
+none-there (e ∷ es) k =
+    rw (le-ltb k 0 (omega arith), failed-past (expectedFrom 0 es (suc k) []), none-there es (suc k))
+
+failed-same : (b : Bool) (bs cs : List Bool) → firstFailed bs ≡ firstFailed cs →
+    firstFailed (b ∷ bs) ≡ firstFailed (b ∷ cs)
+failed-same true bs cs e = rw (failed-past bs, failed-past cs, e)
+failed-same false bs cs e = rw (failed-here bs, failed-here cs)
+
+by-place : (m : ℕ) (es : List Expected) (fs : List (List ℕ)) → m ≤ length fs → length fs ≤ length es →
+    firstFailed (fieldTests es fs) ≡ firstFailed (expectedFrom m es 0 fs)
 unfolding fieldTests
-by-place [] [] l = refl
-by-place [] (f ∷ fs) l = absurd (omega arith)
-by-place (e ∷ es) [] l = absurd (omega arith)
-by-place (e ∷ es) (f ∷ fs) l =
-    ap (λ bs. fits e f ∷ bs) (by-place es fs (omega arith) ∙ sym (next-expected es 0 f fs))
+by-place zero es [] l h = failed-empty ∙ sym (none-there es 0)
+by-place (suc m) es [] l h = absurd (omega arith)
+by-place m [] (f ∷ fs) l h = absurd (omega arith)
+by-place zero (e ∷ es) (f ∷ fs) l h =
+    rw (lt-ltb 0 (suc (length fs)) (omega arith), next-expected zero es 0 f fs)
+    (failed-same (fits e f) (fieldTests es fs) (expectedFrom zero es 0 fs)
+    (by-place zero es fs (omega arith) (omega arith)))
+by-place (suc m) (e ∷ es) (f ∷ fs) l h =
+    rw (next-expected m es 0 f fs)
+    (failed-same (fits e f) (fieldTests es fs) (expectedFrom m es 0 fs)
+    (by-place m es fs (omega arith) (omega arith)))
 
 -- as many as expected, or nothing is asked after that
 abbrev asMany : Form → List (List ℕ) → Bool
 asMany form fs = within (form .least) (length (form .fields)) (length fs)
 
-form-by-place : (form : Form) (fs : List (List ℕ)) → form .least ≡ length (form .fields) →
-    firstFailed (formTests form fs) ≡
-    firstFailed (asMany form fs ∷ expectedFrom (form .fields) 0 fs)
+-- what is expected of each field of a form
+abbrev expectedBy : Form → List (List ℕ) → List Bool
+expectedBy form fs = expectedFrom (form .least) (form .fields) 0 fs
+
+form-by-place : (form : Form) (fs : List (List ℕ)) →
+    firstFailed (formTests form fs) ≡ firstFailed (asMany form fs ∷ expectedBy form fs)
 unfolding formTests
-form-by-place form fs e = go (true-or-false (asMany form fs))
+form-by-place form fs = go (true-or-false (asMany form fs))
   where
     m : ℕ
     m = length (form .fields)
 
     go : (asMany form fs ≡ true) ⊎ (asMany form fs ≡ false) →
         firstFailed (asMany form fs ∷ fieldTests (form .fields) fs) ≡
-        firstFailed (asMany form fs ∷ expectedFrom (form .fields) 0 fs)
+        firstFailed (asMany form fs ∷ expectedBy form fs)
     go (inl h) =
-        let low = within-low (form .least) m (length fs) h in
-        let high = within-high (form .least) m (length fs) h in
-        let l : length fs ≡ m = omega arith in
-        rw (by-place (form .fields) fs l)
+        failed-same (asMany form fs) (fieldTests (form .fields) fs) (expectedBy form fs)
+        (by-place (form .least) (form .fields) fs (within-low (form .least) m (length fs) h)
+        (within-high (form .least) m (length fs) h))
     go (inr h) =
         rw (
           h,
           failed-here (fieldTests (form .fields) fs),
-          failed-here (expectedFrom (form .fields) 0 fs),
+          failed-here (expectedBy form fs),
         )
 
 -- A line that is to have a form: it stands in its place, its fields are as expected, and then the
@@ -201,13 +228,12 @@ formed-standing n a l (At field) e = refl
 formed-standing n a l Nothing e = rw e
 
 formed-told : (n : ℕ) (a : Rows) (form : Form) (fs : List (List ℕ)) (l : Line) {P : Type 0}
-    {qs rs : List {1} Asked} → malformedAt l ≡ Nothing → form .least ≡ length (form .fields) →
-    Tests (placed n a (wordOf l)) P →
-    Asks Malformed 0 (asMany form fs ∷ expectedFrom (form .fields) 0 fs) qs →
+    {qs rs : List {1} Asked} → malformedAt l ≡ Nothing → Tests (placed n a (wordOf l)) P →
+    Asks Malformed 0 (asMany form fs ∷ expectedBy form fs) qs →
     Told (rulesOf a l) rs →
     Told (standing n a (formed form fs l)) ((no 1 at 0 unless P) ∷ (qs ++ rs))
-formed-told n a form fs l e m t ts f =
-    rw (formed-standing n a l (firstFailed (formTests form fs)) e, form-by-place form fs m)
+formed-told n a form fs l e t ts f =
+    rw (formed-standing n a l (firstFailed (formTests form fs)) e, form-by-place form fs)
     (ask (placed n a (wordOf l)) Malformed 0 t (asked Malformed ts f))
 
 -- The tests of a field, of a count and of a place.
@@ -243,6 +269,10 @@ as-many m x = (
   λ e. omega (arith, within-low m m x e, within-high m m x e),
   λ e. is-within m m x (omega arith) (omega arith),
 )
+
+where-so : (b : Bool) {c : Bool} {P Q : Type 0} → Tests b P → Tests c Q → Tests (if b then c else true) (P → Q)
+where-so true f g = (λ e p. g .0 e, λ h. g .1 (h (f .0 refl)))
+where-so false f g = (λ e p. absurd (clash false (f .1 p) refl), λ h. refl)
 
 empty : {A : Type 0} (xs : List A) → Tests (isNil xs) (length xs ≡ 0)
 empty [] = (λ e. refl, λ e. refl)
@@ -284,7 +314,7 @@ unfolding
     lineBy tickForm serverForm taskForm placed bounds serverBounds taskBounds wholes serverWhole
     fault standing
 word-told n a fs ATick =
-    formed-told n a tickForm fs (OfTick (microsAt fs 1)) refl refl (is-eq n 1)
+    formed-told n a tickForm fs (OfTick (microsAt fs 1)) refl (is-eq n 1)
     (as-many 1 (length fs) also number (fieldAt fs 1) also none)
     (asked OutOfBounds (unasked (is-in 1 10000 (worth (fieldAt fs 1)) also none))
     (asked NotWhole none kept))
@@ -292,9 +322,10 @@ word-told n a fs AServer =
     let s = serverSaid fs in
     let t = a .tick .0 in
     let p = s .period .0 in
-    formed-told n a serverForm fs (OfServer s) refl refl
+    let q = phaseSaid (s .phase) .0 in
+    formed-told n a serverForm fs (OfServer s) refl
     (both (ltb 1 n) (isNil (a .tasks)) (is-lt 1 n) (empty (a .tasks)))
-    (as-many 7 (length fs)
+    (is-in 7 8 (length fs)
     also number (fieldAt fs 1)
     also kind (fieldAt fs 2)
     also number (fieldAt fs 3)
@@ -302,6 +333,7 @@ word-told n a fs AServer =
     also number (fieldAt fs 5)
     also number (fieldAt fs 6)
     also number (fieldAt fs 7)
+    also where-so (ltb 7 (length fs)) (is-lt 7 (length fs)) (number (fieldAt fs 8))
     also none)
     (asked OutOfBounds
     (is-lt (length (a .servers)) 32
@@ -312,6 +344,7 @@ word-told n a fs AServer =
     also is-le (s .capacity .n .0) p
     also is-le (s .capacity .d1 .0) p
     also is-le (s .capacity .d2 .0) p
+    also is-le (q + t) p
     also none))
     (asked NotWhole
     (unasked
@@ -322,12 +355,13 @@ word-told n a fs AServer =
     also is-eq (s .capacity .n .0 % t) 0
     also is-eq (s .capacity .d1 .0 % t) 0
     also is-eq (s .capacity .d2 .0 % t) 0
+    also is-eq (q % t) 0
     also none)))))
     kept))
 word-told n a fs ATask =
     let k = taskSaid fs in
     let limit = limitsOf (a .tick .0) (k .limit) in
-    formed-told n a taskForm fs (OfTask k) refl refl (some (a .servers))
+    formed-told n a taskForm fs (OfTask k) refl (some (a .servers))
     (as-many 7 (length fs)
     also number (fieldAt fs 1)
     also number (fieldAt fs 2)

@@ -1,19 +1,19 @@
 -- The two bounds of specs/Bounds.antt, proved. Why they hold: First.antt, Second.antt, and crate
 -- bounds beneath. Assumes nothing.
 use mathlib.Core.Path.{_≡_, refl, ap, _∙_}
-use mathlib.Core.Bool.{true, _||_}
+use mathlib.Core.Bool.{true, _&&_, _||_}
 use mathlib.Core.List.{List, [], _∷_, _++_}
 use mathlib.Core.Logic.{_⊎_, inl, inr}
 use Prim.Native.Nat.{ℕ, _+_, _*_, _-_, _≤_, _<_}
 use native.Mathlib.Omega.{arith}
 use lib.Dec.{eqb}
 use lib.ListN.{length, drop}
-use borrow.Author.Tests.{eq-eqb}
+use borrow.Author.Tests.{le-leb, eq-eqb}
 use Rattle.laws.specs.RoundUp.{up}
 use Rattle.laws.proofs.Choice.{and-true, and-left, and-right, le-or-lt}
 use Rattle.table.specs.declared.Mode.the-variants.{N}
 use Rattle.table.specs.declared.Table.{Table}
-use Rattle.table.specs.Rows.{serverAt, periodAt, capacityAt, isTimed}
+use Rattle.table.specs.Rows.{serverAt, periodAt, phaseAt, capacityAt, isTimed}
 use Rattle.table.specs.Rules.{tableKeeps}
 use Rattle.verdict.specs.declared.Verdict.the-variants.{Response}
 use Rattle.verdict.specs.Verdict.{verdictOf}
@@ -33,12 +33,12 @@ use Rattle.run.proofs.Taken.{release-ind, tick-ind, releaseTaken, tickedTaken}
 use Rattle.run.proofs.Shape.{Shaped, fresh-shaped}
 use Rattle.run.proofs.Sound.{state-facts}
 use Rattle.run.specs.Found.{TakenTick, takenBy, takenTicks}
-use Rattle.promises.specs.Bounds.{inRow, charges, largestCapacity, elapsedFirst, normal}
+use Rattle.promises.specs.Bounds.{inRow, charges, largestCapacity, elapsedFirst, startedFirst, normal}
 use Rattle.promises.specs.Bounds.{waitsUntil, tickAnswer, tickAnswers, answersOf, wholePeriod, FirstBound, SecondBound}
 use Rattle.promises.specs.Bounds.{FromTheAnswers, PeriodsFromTheStart}
 use Rattle.promises.proofs.Accepted.{accepted}
-use Rattle.promises.proofs.Ticks.{Follows, follows, zeros, period-begins}
-use Rattle.promises.proofs.Lists.{in-row-length, elapsed-in-row}
+use Rattle.promises.proofs.Ticks.{tickAt, started-told, Follows, follows, zeros, period-begins}
+use Rattle.promises.proofs.Lists.{in-row-length, elapsed-in-row, started-in-row}
 use Rattle.promises.proofs.First.{charged-most, charged-touched}
 use Rattle.promises.proofs.Second.{charged-prefix, charged-whole}
 
@@ -95,7 +95,7 @@ second-bound t es ms i s T C R e q l p k c v n u w =
 pub second-bound-prefix : (t : Table) (es : List Event) (ms : List TakenTick) (i s x R : ℕ) → tableKeeps t ≡ true →
     ms ≡ takenTicks (freshRun t) es → i < t .nservers → 1 ≤ capacityAt t N i →
     verdictOf t i N ≡ Response (record { 0 = R }) → x ≤ periodAt t i → s + x ≤ length ms →
-    elapsedFirst i (drop s ms) ≡ 0 →
+    elapsedFirst i (drop s ms) ≡ 0 → startedFirst t i (drop s ms) ≡ true →
     normal (inRow ms 0 (s + x)) ≡ true →
     (isTimed (serverAt t i .kind) || waitsUntil t i (capacityAt t N i) (inRow ms s x)) ≡ true →
     capacityAt t N i ≤ charges i (inRow ms s x) + (R - x)
@@ -129,19 +129,28 @@ from-the-answers r (Tick mark ∷ es) =
     (from-the-answers (tickedTaken r mark .run) es))
 
 pub periods-from-the-start : PeriodsFromTheStart
-periods-from-the-start t es ms i q T e r l p h = rw p (go (le-or-lt 1 (periodAt t i)))
+periods-from-the-start t es ms i q T F e r l p g h = rw (p, g) (go (le-or-lt 1 (periodAt t i)))
   where
-    n : q * periodAt t i + periodAt t i ≤ length ms
-    n = rw p at h
+    n : phaseAt t i + q * periodAt t i + periodAt t i ≤ length ms
+    n = rw (p, g) at h
 
-    go : (1 ≤ periodAt t i) ⊎ (periodAt t i < 1) → wholePeriod t i (inRow ms (q * periodAt t i) (periodAt t i)) ≡ true
+    go : (1 ≤ periodAt t i) ⊎ (periodAt t i < 1) →
+        wholePeriod t i (inRow ms (phaseAt t i + q * periodAt t i) (periodAt t i)) ≡ true
     go (inl o) =
         let P = periodAt t i in
+        let s = phaseAt t i + q * P in
         let f = from-fresh t es ms e r in
-        let c = elapsed-in-row i ms (q * P) P (omega (arith, n)) o ∙ period-begins t ms f i l o q (omega (arith, n)) in
+        let c = elapsed-in-row i ms s P (omega (arith, n)) o ∙ period-begins t ms f i l o q (omega (arith, n)) in
+        let d = f .told s (omega (arith, n)) in
+        let b =
+        started-in-row t i ms s P (omega (arith, n)) o ∙ started-told t (tickAt ms s) d i ∙
+        le-leb (phaseAt t i) (tickAt ms s .found .ticks .0) (omega (arith, f .number s (omega (arith, n)))) in
+        let long = eqb (length (inRow ms s P)) P in
+        let new = eqb (elapsedFirst i (inRow ms s P)) 0 in
         and-true
-        (eqb (length (inRow ms (q * P) P)) P)
-        (eqb (elapsedFirst i (inRow ms (q * P) P)) 0)
-        (eq-eqb (length (inRow ms (q * P) P)) P (in-row-length ms (q * P) P n))
-        (eq-eqb (elapsedFirst i (inRow ms (q * P) P)) 0 c)
+        (long && new)
+        (startedFirst t i (inRow ms s P))
+        (and-true long new (eq-eqb (length (inRow ms s P)) P (in-row-length ms s P n))
+        (eq-eqb (elapsedFirst i (inRow ms s P)) 0 c))
+        b
     go (inr o) = let z : periodAt t i ≡ 0 = omega arith in rw z

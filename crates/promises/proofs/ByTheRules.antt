@@ -6,17 +6,17 @@ use mathlib.Core.Logic.{_⊎_, inl, inr, _↔_}
 use Prim.Native.Nat.{ℕ, zero, suc, _+_, _<_}
 use native.Mathlib.Omega.{arith}
 use lib.Dec.{eqb}
-use borrow.Author.Tests.{eqb-true, eqb-false, eq-eqb, ne-eqb, ltb-true, ltb-false, lt-ltb}
+use borrow.Author.Tests.{leb-true, le-leb, eqb-true, eqb-false, eq-eqb, ne-eqb, ltb-true, ltb-false, lt-ltb}
 use Rattle.laws.specs.declared.Found.the-variants.{At, Nothing}
 use Rattle.laws.specs.Choice.{if_then_else_}
-use Rattle.laws.proofs.Choice.{clash, if-ind, true-or-false, and-left, and-right, and-true}
+use Rattle.laws.proofs.Choice.{clash, is-false, if-ind, true-or-false, and-left, and-right, and-true}
 use Rattle.laws.specs.Rows.{anyBelow}
 use Rattle.laws.proofs.Rows.{any-at, any-none, any-found}
 use Rattle.laws.proofs.Highest.{highest-exactly, none-exactly}
 use Rattle.table.specs.declared.Kind.the-variants.{Timed}
 use Rattle.table.specs.declared.Mode.{Mode}
 use Rattle.table.specs.declared.Table.{Table}
-use Rattle.table.specs.Rows.{serverAt, taskAt, periodAt, priorityAt, limitAt, taskPriorityAt}
+use Rattle.table.specs.Rows.{serverAt, taskAt, periodAt, phaseAt, priorityAt, limitAt, taskPriorityAt}
 use Rattle.table.specs.Rows.{isTimed}
 use Rattle.table.proofs.Rows.{timed-exactly}
 use Rattle.table.proofs.Rules.{TableRules}
@@ -28,7 +28,7 @@ use Rattle.run.specs.declared.Run.{Run}
 use Rattle.run.specs.declared.Judged.{Judged}
 use Rattle.events.specs.declared.Left.{Left}
 use Rattle.events.specs.declared.Left.the-variants.{Nobody, Cut}
-use Rattle.run.specs.State.{usedAt, elapsedAt, waitingAt, runsAt, owner, taskWaits, waitsFor, waits}
+use Rattle.run.specs.State.{usedAt, elapsedAt, started, inForce, passes, waitingAt, runsAt, owner, taskWaits, waitsFor, waits}
 use Rattle.events.specs.Answers.{charged}
 use Rattle.run.specs.Tick.{height, countsAs, raises, raised, judge, judged, step1, drops, discards, step2, step4}
 use Rattle.run.specs.Tick.{settle, able, highestAble, highestTask, choose, advance, tickTaken}
@@ -42,12 +42,13 @@ use Rattle.run.proofs.Tick.{turn-run, turn-empty, turn-idle, turn-last, owner-e
 use Rattle.events.proofs.Answers.{charged-is}
 use Rattle.events.proofs.Answers.{charged-le, one-charged, one-same}
 use Rattle.run.proofs.Tick.{highest-charged, charged-highest}
-use Rattle.run.proofs.Tick.{timed-able, waiting-able, able-room, able-cause}
+use Rattle.run.proofs.Tick.{timed-able, waiting-able, able-room, able-started, able-cause}
+use Rattle.run.proofs.Tick.{force-started, force-low, started-settled}
 use Rattle.run.proofs.Slips.{used-anew, used-stays, none-waits-normal, waits-as-risen, next-starts}
 use Rattle.run.proofs.Count.{tick-jobs}
 use Rattle.promises.specs.Condition2.{RunSized, OneTick, table, old, new, OnTheWay, Judging, stays}
 use Rattle.promises.specs.Condition2.{rises, is-cut, Ends, Step1}
-use Rattle.promises.specs.Condition2.{Discarded, Step2, Step3, Step4, Waits, Able, Highest}
+use Rattle.promises.specs.Condition2.{Discarded, Step2, Step3, Step4, Waits, Started, Able, Highest}
 use Rattle.promises.specs.Condition2.{Step5, HighestTask, Step6, Step7, Says, ByTheRules}
 
 -- A run that code holds is one whose arrays have their lengths.
@@ -238,15 +239,25 @@ module _ (t : Table) (s : State) (mark : Bool) (rules : TableRules t) (shape : S
         },
   )
 
+  -- a server has started in the words of the statement
+  started-is : (i : ℕ) → Started x i ↔ (started t z i ≡ true)
+  started-is i = (
+    λ h. started-settled t s mark i ∙ le-leb (phaseAt t i) (s .ticks .0) h,
+    λ e. leb-true (phaseAt t i) (s .ticks .0) (sym (started-settled t s mark i) ∙ e),
+  )
+
   able-is : (i : ℕ) → Able x w i ↔ ((i < t .nservers) × (able t z i ≡ true))
   unfolding tickTaken waits
   able-is i = (λ h. (h .there, to h (h .cause)), back)
     where
+      force : Able x w i → usedAt z i < inForce t z i
+      force h = omega (arith, h .below, force-started t z i (started-is i .0 (h .started)))
+
       to : Able x w i → (serverAt t i .kind ≡ Timed) ⊎ ((k : ℕ) × Waits x i k) → able t z i ≡ true
-      to h (inl e) = timed-able t z i (ap isTimed e) (h .below)
+      to h (inl e) = timed-able t z i (ap isTimed e) (force h)
       to h (inr (k, q)) =
           let p = waits-is i k .0 q in
-          waiting-able t z i (any-at (waitsFor t z i) (t .ntasks) k (p .0) (p .1)) (h .below)
+          waiting-able t z i (any-at (waitsFor t z i) (t .ntasks) k (p .0) (p .1)) (force h)
 
       why : (isTimed (serverAt t i .kind) ≡ true) ⊎ (waits t z i ≡ true) →
           (serverAt t i .kind ≡ Timed) ⊎ ((k : ℕ) × Waits x i k)
@@ -256,7 +267,13 @@ module _ (t : Table) (s : State) (mark : Bool) (rules : TableRules t) (shape : S
           inr (f .0, waits-is i (f .0) .1 (f .1, f .2))
 
       back : (i < t .nservers) × (able t z i ≡ true) → Able x w i
-      back p = record { there = p .0; below = able-room t z i (p .1); cause = why (able-cause t z i (p .1)) }
+      back p =
+          record {
+            there = p .0;
+            started = started-is i .1 (able-started t z i (p .1));
+            below = omega (arith, able-room t z i (p .1), force-low t z i);
+            cause = why (able-cause t z i (p .1));
+          }
 
   server-is : (i : ℕ) → (highestAble t z ≡ At i) ↔ Highest x w i
   unfolding highestAble
@@ -320,12 +337,19 @@ module _ (t : Table) (s : State) (mark : Bool) (rules : TableRules t) (shape : S
   unfolding tickTaken
   by7 =
       record {
-        elapsed = λ i l. elapsed-after t s mark i l (rules .servers-high) shape;
+        elapsed = λ i l h. aged i l ∙ rw (started-is i .0 h);
+        stays = λ i l n. aged i l ∙ rw (late i n) (omega arith);
         ticks = ticks-after t s mark;
         tick = refl;
         accepted = accepted-after t s mark;
         same = refl;
       }
+    where
+      aged : (i : ℕ) → i < t .nservers → elapsedAt (tickTaken t s mark .state) i ≡ elapsedAt z i + passes t z i
+      aged i l = elapsed-after t s mark i l (rules .servers-high) shape
+
+      late : (i : ℕ) → (Started x i → ⊥) → started t z i ≡ false
+      late i n = is-false (started t z i) (λ e. n (started-is i .1 e))
 
   by8 : Says x w
   unfolding tickTaken advance choose

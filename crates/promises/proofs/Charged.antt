@@ -14,13 +14,13 @@ use Rattle.table.specs.Rows.{priorityAt}
 use Rattle.run.specs.declared.State.{State}
 use Rattle.events.specs.Answers.{charged}
 use Rattle.run.specs.Tick.{able, highestAble, choose}
-use Rattle.run.proofs.Tick.{able-room, highest-charged}
+use Rattle.run.proofs.Tick.{able-room, force-low, highest-charged}
 use Rattle.events.proofs.Answers.{one-same}
 use Rattle.promises.proofs.Accepted.{Accepted, there}
 
 module _ (t : Table) (a : Accepted t) where
   able-there : (z : State) (i : ℕ) → i < t .nservers → able t z i ≡ true → i < there t
-  able-there z i l e = a .some i (z .mode) l (omega (arith, able-room t z i e))
+  able-there z i l e = a .some i (z .mode) l (omega (arith, able-room t z i e, force-low t z i))
 
   same-row : (i j : ℕ) → i < there t → j < there t → priorityAt t i ≡ priorityAt t j → i ≡ j
   same-row i j l m e =

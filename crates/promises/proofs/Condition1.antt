@@ -62,7 +62,7 @@ use Rattle.promises.proofs.Opened.{opened}
 use Rattle.promises.proofs.Reading.{is-taken, refused-rows}
 use Rattle.promises.proofs.Tests.{_and_}
 use Rattle.promises.proofs.Asked.{line-told, faults}
-use Rattle.promises.proofs.Rules.{times-whole}
+use Rattle.promises.proofs.Rules.{times-whole, no-phase-zero}
 
 -- The reader: each-read of Reading.antt, and
 pub no-table-back : NoTableBack
@@ -241,7 +241,8 @@ unfolding shown
 reading-then-writing text e =
     let f = read-then-write text (is-taken text (e .0)) in
     let g = times-whole (tableOf (read text .rows) .tick .0) text in
-    (λ p. g .0 (f .0 p), λ q. f .1 (g .1 q))
+    let z = no-phase-zero text in
+    (λ p. let w = f .0 p in (g .0 (w .0), z .0 (w .1)), λ q. f .1 (g .1 (q .0), z .1 (q .1)))
 
 -- Verdicts: the number in each of the three ways to one.
 module _ (t : Table) (m : Mode) (i : ℕ) where
@@ -313,7 +314,7 @@ pub table-lines : TableLines
 unfolding opened
 table-lines =
     refl and refl and refl and refl and refl and refl and refl and refl and refl and refl and refl
-    and refl and refl and refl and refl and refl and tt
+    and refl and refl and refl and refl and refl and refl and refl and refl and refl and tt
 
 pub degraded-lines : DegradedLines
 unfolding opened

@@ -16,7 +16,7 @@ use Rattle.table.specs.Rows.{periodAt}
 use Rattle.run.specs.declared.State.{State}
 use Rattle.run.specs.State.{elapsedAt}
 use Rattle.events.specs.Answers.{charged}
-use Rattle.run.proofs.Tick.{charged-able, able-room}
+use Rattle.run.proofs.Tick.{charged-able, able-room, force-low}
 use Rattle.events.proofs.Answers.{charged-is}
 use Rattle.run.specs.Found.{TakenTick}
 use Rattle.promises.specs.Bounds.{inRow, charges, largestCapacity, beginning, touched}
@@ -36,7 +36,7 @@ module _ (t : Table) (s : State) (ms : List TakenTick) (f : Follows t s ms) (a :
             (let z = tickAt ms x .found in
             let d = charged-able t z i (ap (λ turn. charged turn i) (sym (f .told x h .turn)) ∙ c) in
             let r = able-room t z i (d .1) in
-            absurd (omega (arith, a .some i (z .mode) (d .0) (omega arith))))
+            absurd (omega (arith, a .some i (z .mode) (d .0) (omega (arith, force-low t z i)))))
       ]
 
   pub charged-most : (i from width k W : ℕ) → 1 ≤ W → from ≤ k → k + W ≤ from + width → k + W ≤ length ms →

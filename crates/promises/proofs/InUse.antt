@@ -101,7 +101,7 @@ module _ {r q : Run} (h : SameInUse r q) where
   unfolding soundServer
   server-tests i l =
       let e = server-same (h .tables) i l in
-      rw (h .elapsed i l, h .used i l, ap (λ (a : Server). a .period .0) e, e)
+      rw (h .elapsed i l, h .used i l, h .ticks, ap (λ (a : Server). a .period .0) e, ap (λ (a : Server). a .phase .0) e, e)
 
   task-tests : (k : ℕ) → k < r .table .ntasks →
       every (soundTask (r .table) (r .state) k) ≡ every (soundTask (q .table) (q .state) k)

@@ -26,3 +26,4 @@ pub mod Dummies
 pub mod Reworded
 pub mod Morning
 pub mod OldReading
+pub mod Phases

@@ -13,11 +13,11 @@ use Rattle.bounds.proofs.Windows.{window, window-none, window-next}
 use Rattle.table.specs.declared.Mode.{Mode}
 use Rattle.table.specs.declared.Mode.the-variants.{N, D1, D2}
 use Rattle.table.specs.declared.Table.{Table}
-use Rattle.table.specs.Rows.{capacityAt}
 use Rattle.run.specs.State.{elapsedAt, waits}
 use Rattle.events.specs.Answers.{charged}
 use Rattle.run.specs.Found.{TakenTick}
-use Rattle.promises.specs.Bounds.{inRow, charges, largestCapacity, elapsedFirst, isNormal, normal, waitsUntil}
+use Rattle.promises.specs.Bounds.{inRow, charges, startedAt, inForceAt, largestCapacity, elapsedFirst, startedFirst}
+use Rattle.promises.specs.Bounds.{isNormal, normal, waitsUntil}
 use Rattle.promises.proofs.Ticks.{noTick, tickAt, course}
 
 -- a tick of some in a row
@@ -56,25 +56,25 @@ charges-window t i ms s (suc w) h =
 
 -- the largest is none of them below
 largest-at : (t : Table) (i : ℕ) (ms : List TakenTick) (x : ℕ) → x < length ms →
-    capacityAt t (tickAt ms x .answer .mode) i ≤ largestCapacity t i ms
+    inForceAt t i (tickAt ms x) ≤ largestCapacity t i ms
 unfolding largestCapacity
 largest-at t i [] x h = absurd (omega arith)
-largest-at t i (m ∷ ms) zero h = larger-left (capacityAt t (m .answer .mode) i) (largestCapacity t i ms)
+largest-at t i (m ∷ ms) zero h = larger-left (inForceAt t i m) (largestCapacity t i ms)
 largest-at t i (m ∷ ms) (suc x) h =
     omega (
       arith,
       largest-at t i ms x (omega arith),
-      larger-right (capacityAt t (m .answer .mode) i) (largestCapacity t i ms),
+      larger-right (inForceAt t i m) (largestCapacity t i ms),
     )
 
 pub largest-in-row : (t : Table) (i : ℕ) (ms : List TakenTick) (s w x : ℕ) → s ≤ x → x < s + w → x < length ms →
-    capacityAt t (tickAt ms x .answer .mode) i ≤ largestCapacity t i (inRow ms s w)
+    inForceAt t i (tickAt ms x) ≤ largestCapacity t i (inRow ms s w)
 largest-in-row t i ms s w x h k l = at (x - s) (omega arith)
   where
-    at : (y : ℕ) → s + y ≡ x → capacityAt t (tickAt ms x .answer .mode) i ≤ largestCapacity t i (inRow ms s w)
+    at : (y : ℕ) → s + y ≡ x → inForceAt t i (tickAt ms x) ≤ largestCapacity t i (inRow ms s w)
     at y e =
         rw
-        (ap (λ m. capacityAt t (m .answer .mode) i) (ap (tickAt ms) (sym e) ∙ sym (in-row-at ms s w y (omega arith))))
+        (ap (inForceAt t i) (ap (tickAt ms) (sym e) ∙ sym (in-row-at ms s w y (omega arith))))
         (largest-at t i (inRow ms s w) y (omega (arith, length-take w (drop s ms), length-drop s ms)))
 
 -- the first of some ticks
@@ -82,10 +82,19 @@ pub elapsed-first : (i : ℕ) (ms : List TakenTick) (x : ℕ) → x < length ms 
     elapsedFirst i (drop x ms) ≡ elapsedAt (tickAt ms x .found) i
 elapsed-first i ms x h = rw (drop-cons ms x noTick h)
 
+pub started-first : (t : Table) (i : ℕ) (ms : List TakenTick) (x : ℕ) → x < length ms →
+    startedFirst t i (drop x ms) ≡ startedAt t i (tickAt ms x)
+started-first t i ms x h = rw (drop-cons ms x noTick h)
+
 pub elapsed-in-row : (i : ℕ) (ms : List TakenTick) (s w : ℕ) → s < length ms → 1 ≤ w →
     elapsedFirst i (inRow ms s w) ≡ elapsedAt (tickAt ms s .found) i
 elapsed-in-row i ms s zero h l = absurd (omega arith)
 elapsed-in-row i ms s (suc w) h l = rw (drop-cons ms s noTick h)
+
+pub started-in-row : (t : Table) (i : ℕ) (ms : List TakenTick) (s w : ℕ) → s < length ms → 1 ≤ w →
+    startedFirst t i (inRow ms s w) ≡ startedAt t i (tickAt ms s)
+started-in-row t i ms s zero h l = absurd (omega arith)
+started-in-row t i ms s (suc w) h l = rw (drop-cons ms s noTick h)
 
 -- each of the ticks is normal
 is-normal : (m : Mode) → isNormal m ≡ true → m ≡ N

@@ -14,7 +14,7 @@ use Rattle.text.specs.Standing.{placed, serverBounds, taskBounds, bounds, serve
 use Rattle.text.specs.Read.{compared, ended, read, shown}
 use Rattle.verdict.specs.Verdict.{verdictOf, responseAt, meets, interference}
 use Rattle.events.specs.Boxes.{afterIn, answersIn}
-use Rattle.run.specs.State.{waits, someWaits}
+use Rattle.run.specs.State.{inForce, waits, someWaits}
 use Rattle.run.specs.Sound.{sound, soundState, soundServer, soundTask, soundLast, soundCounts}
 use Rattle.run.specs.Release.{startOf, releaseOf}
 use Rattle.run.specs.Tick.{judge, step1, drops, discards, step2, step3, step4, settle, able, highestAble, highestTask, choose}
@@ -30,7 +30,7 @@ unfolding
     every least firstFailed firstOf up allBelow anyBelow sumBelow highest anew areDigits numberForm isNumber worthFrom digitsIn
     digits split join closed same tableOf tableKeeps keeps serverKeeps taskKeeps taskFault taskStands differ laterEqual
     firstPair tickWord serverWord taskWord eventWord timedWord loWord miWord hiWord tickForm serverForm
-    taskForm fieldTests formTests lineBy lineOf readLine placed serverBounds taskBounds bounds serverWhole wholes fault standing grown compared ended read shown verdictOf responseAt meets interference waits someWaits
+    taskForm fieldTests formTests lineBy lineOf readLine placed serverBounds taskBounds bounds serverWhole wholes fault standing grown compared ended read shown verdictOf responseAt meets interference inForce waits someWaits
     sound soundState soundServer soundTask soundLast soundCounts startOf releaseOf judge step1
     drops discards step2 step3 step4 settle able highestAble highestTask choose advance tickTaken tickOf afterIn
     answersIn

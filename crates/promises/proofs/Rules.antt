@@ -1,16 +1,17 @@
 -- The rules of a table, of a state and of task times, as inequalities: each test holds exactly if
 -- its inequality does. Assumes nothing.
-use mathlib.Core.Path.{_≡_, refl, ap, subst, _∙_}
+use mathlib.Core.Path.{_≡_, refl, ap, subst}
 use mathlib.Core.Bool.{Bool, true, false, _&&_}
 use mathlib.Core.List.{List, [], _∷_}
 use mathlib.Core.Logic.{_⊎_, inl, inr, _↔_, Iff·trans}
-use Prim.Native.Nat.{ℕ, zero, suc, _-_, _%_, _<_}
+use Prim.Native.Nat.{ℕ, zero, suc, _-_, _%_, _≤_, _<_}
 use native.Mathlib.Omega.{arith}
 use lib.ListN.{length, getD}
-use borrow.Author.Tests.{eqb-true, eq-eqb}
+use lib.Dec.{eqb}
+use borrow.Author.Tests.{leb-false, lt-leb, eqb-true, eq-eqb, not-true}
 use Rattle.laws.specs.Choice.{every, within}
 use Rattle.laws.specs.Rows.{allBelow}
-use Rattle.laws.proofs.Choice.{clash}
+use Rattle.laws.proofs.Choice.{clash, is-false}
 use Rattle.laws.proofs.Rows.{all-at, all-build}
 use Rattle.decimal.specs.Lines.{lineFeed, split}
 use Rattle.table.specs.declared.ByMode.{ByMode}
@@ -24,14 +25,18 @@ use Rattle.table.specs.declared.Level.the-variants.{LO, MI, HI}
 use Rattle.table.specs.declared.Mode.{Mode}
 use Rattle.table.specs.declared.Mode.the-variants.{N, D1, D2}
 use Rattle.table.specs.declared.Table.{Table}
-use Rattle.table.specs.Rows.{rowsOf, isLow, isD2, noServer, noTask, taskAt}
+use Rattle.table.specs.Rows.{rowsOf, isLow, isD2, noServer, noTask, taskAt, phaseAt}
 use Rattle.table.specs.Rules.{serverKeeps, taskKeeps, taskFault, taskStands, keeps, tableKeeps}
 use Rattle.table.proofs.Pairs.{differ-at, differ-build}
+use Rattle.units.specs.declared.Micros.{Micros}
+use Rattle.text.specs.declared.LastField.{LastField}
+use Rattle.text.specs.declared.LastField.the-variants.{Absent, Given}
+use Rattle.text.specs.declared.ServerLine.{ServerLine}
 use Rattle.text.specs.declared.TaskLine.{TaskLine}
 use Rattle.text.specs.declared.Line.{Line}
 use Rattle.text.specs.declared.Line.the-variants.{OfTick, OfServer, OfTask, Malformed}
-use Rattle.text.specs.Line.{readLine}
-use Rattle.text.specs.Write.{taskTimesWhole, allTimesWhole, timesWhole}
+use Rattle.text.specs.Line.{noLine, readLine}
+use Rattle.text.specs.Write.{taskTimesWhole, allLines, timesWhole, notZero, phaseNotZero, noPhaseZero}
 use Rattle.text.proofs.Refused.{standing-0}
 use Rattle.text.proofs.RoundTrip.{nothing-said}
 use Rattle.queues.specs.declared.Last.{Last}
@@ -39,10 +44,11 @@ use Rattle.queues.specs.declared.Last.the-variants.{NoJob, Job}
 use Rattle.run.specs.declared.State.{State}
 use Rattle.queues.specs.Queues.{isLast}
 use Rattle.run.proofs.Sound.{TaskSound, JobSound, LastSound, sound-exactly}
-use Rattle.promises.specs.Condition1.{lineAt, isTask, TimesWhole, All, TaskFits, Gives}
+use Rattle.promises.specs.Condition1.{lineAt, isServer, isTask, TimesWhole, NoPhaseZero}
+use Rattle.promises.specs.Condition1.{All, TaskFits, Gives}
 use Rattle.promises.specs.Condition1.{ServerRow, TaskRow, TableExactly, SoundTask, SoundLast}
 use Rattle.promises.specs.Condition1.{SoundExactly}
-use Rattle.promises.proofs.Tests.{Tests, is-le, is-eq, is-in, both, _and_}
+use Rattle.promises.proofs.Tests.{Tests, is-le, is-lt, is-eq, is-in, both, _and_}
 use Rattle.promises.proofs.Asked.{faults}
 
 -- each test of a list, and all of them
@@ -87,6 +93,7 @@ server-row s =
     also is-le (s .capacity .n .0) p
     also is-le (s .capacity .d1 .0) p
     also is-le (s .capacity .d2 .0) p
+    also is-lt (s .phase .0) p
     also none)
 
 task-row : (ss : List Server) (k : Task) → Tests (taskStands ss k) (TaskRow ss k)
@@ -190,7 +197,8 @@ state-exactly r =
           let p = sound-exactly r .0 e in
           let f = p .1 in
           p .0
-          and (λ i h. let g = f .servers i h in g .elapsed and g .used and g .room and tt)
+          and (λ i h. let g = f .servers i h in g .elapsed and g .used and g .room
+          and (λ l. g .before (lt-leb (phaseAt t i) (s .ticks .0) l)) and tt)
           and (λ k h. sound-task t s k .0 (f .tasks k h))
           and sound-last t s .0 (f .last)
           and f .counts .ticks
@@ -205,7 +213,12 @@ state-exactly r =
               servers =
                   λ i h.
                   let g = p .1 .0 i h in
-                  record { elapsed = g .0; used = g .1 .0; room = g .1 .1 .0 };
+                  record {
+                    elapsed = g .0;
+                    used = g .1 .0;
+                    room = g .1 .1 .0;
+                    before = λ q. g .1 .1 .1 .0 (leb-false (phaseAt t i) (s .ticks .0) q);
+                  };
               tasks = λ k h. sound-task t s k .1 (p .1 .1 .0 k h);
               last = sound-last t s .1 (p .1 .1 .1 .0);
               counts = record { ticks = q .0; accepted = q .1 .0; waiting = q .1 .1 .0 };
@@ -234,30 +247,64 @@ task-times t (OfTask x) =
     (λ e k q. let z : x ≡ k = cc in rw (← z) (f .0 e), λ g. f .1 (g x refl))
 task-times t (Malformed word field) = (λ e k q. no-task (Malformed word field) k refl q, λ f. refl)
 
-each-whole : (t : ℕ) (ps : List (List ℕ)) →
-    Tests (allTimesWhole t ps) ((i : ℕ) → taskTimesWhole t (readLine (getD ps i [])) ≡ true)
-unfolding allTimesWhole
-each-whole t [] = (λ e i. rw nothing-said, λ f. refl)
-each-whole t (p ∷ ps) =
-    let f =
-    both (taskTimesWhole t (readLine p)) (allTimesWhole t ps) (λ e. e, λ e. e)
-    (each-whole t ps) in
-    (λ e. each (f .0 e), λ g. f .1 (g 0, λ i. g (suc i)))
+-- "no phase 0 was written": of each line
+no-server : {A : Type 0} (l : Line) (s : ServerLine) → isServer l ≡ false → l ≡ OfServer s → A
+no-server l s f e = absurd (clash (isServer l) (ap isServer e) f)
+
+not-zero : (p : LastField) → Tests (notZero p) (p ≡ Given (record { 0 = 0 }) → ⊥)
+not-zero Absent = (λ e q. let z : _≡_ {A = ℕ} 0 1 = cc in omega arith, λ f. refl)
+not-zero (Given u) = (
+  λ e q.
+      let z : u ≡ record { 0 = 0 } = cc in
+      clash (eqb (u .0) 0) (eq-eqb (u .0) 0 (ap (λ (x : Micros). x .0) z)) (not-true (eqb (u .0) 0) e),
+  λ f. rw (is-false (eqb (u .0) 0) (λ e. f (ap Given (of-none u (eqb-true (u .0) 0 e))))),
+)
   where
-    each : (taskTimesWhole t (readLine p) ≡ true)
-        × ((i : ℕ) → taskTimesWhole t (readLine (getD ps i [])) ≡ true) →
-        (i : ℕ) → taskTimesWhole t (readLine (getD (p ∷ ps) i [])) ≡ true
-    each q zero = q .0
-    each q (suc i) = q .1 i
+    of-none : (x : Micros) → x .0 ≡ 0 → x ≡ record { 0 = 0 }
+    of-none x e = rw (← e)
+
+phase-written : (l : Line) →
+    Tests (phaseNotZero l) ((s : ServerLine) → l ≡ OfServer s → s .phase ≡ Given (record { 0 = 0 }) → ⊥)
+phase-written (OfTick u) = (λ e s q. no-server (OfTick u) s refl q, λ f. refl)
+phase-written (OfServer x) = (
+  λ e s q. let z : x ≡ s = cc in rw (← z) (not-zero (x .phase) .0 e),
+  λ f. not-zero (x .phase) .1 (f x refl),
+)
+phase-written (OfTask k) = (λ e s q. no-server (OfTask k) s refl q, λ f. refl)
+phase-written (Malformed word field) = (λ e s q. no-server (Malformed word field) s refl q, λ f. refl)
+
+-- What a test asks of each line, where it asks nothing of a line of no known word.
+module _ (p : Line → Bool) (P : Line → Type 0) (none : p noLine ≡ true) (f : (l : Line) → Tests (p l) (P l)) where
+  each-part : (ps : List (List ℕ)) → Tests (allLines p ps) ((i : ℕ) → p (readLine (getD ps i [])) ≡ true)
+  unfolding allLines
+  each-part [] = (λ e i. rw (nothing-said, none), λ g. refl)
+  each-part (q ∷ ps) =
+      let h = both (p (readLine q)) (allLines p ps) (λ e. e, λ e. e) (each-part ps) in
+      (λ e. each (h .0 e), λ g. h .1 (g 0, λ i. g (suc i)))
+    where
+      each : (p (readLine q) ≡ true) × ((i : ℕ) → p (readLine (getD ps i [])) ≡ true) →
+          (i : ℕ) → p (readLine (getD (q ∷ ps) i [])) ≡ true
+      each r zero = r .0
+      each r (suc i) = r .1 i
+
+  each-line : (text : List ℕ) →
+      Tests (allLines p (split lineFeed text)) ((n : ℕ) → 1 ≤ n → P (lineAt text n))
+  each-line text = (
+    λ e n h. f (lineAt text n) .0 (each-part (split lineFeed text) .0 e (n - 1)),
+    λ g.
+        each-part (split lineFeed text) .1
+        (λ i.
+        let z : suc i - 1 ≡ i = omega arith in
+        f (readLine (getD (split lineFeed text) i [])) .1
+        (subst (λ j. P (readLine (getD (split lineFeed text) j []))) z (g (suc i) (omega arith)))),
+  )
 
 pub times-whole : (t : ℕ) (text : List ℕ) → Tests (timesWhole t text) (TimesWhole t text)
-times-whole t text = (
-  λ e n k h. task-times t (lineAt text n) .0 (each-whole t (split lineFeed text) .0 e (n - 1)) k,
-  λ f.
-      each-whole t (split lineFeed text) .1
-      (λ i.
-      let z : suc i - 1 ≡ i = omega arith in
-      task-times t (readLine (getD (split lineFeed text) i [])) .1
-      (λ k q.
-      f (suc i) k (omega arith) (ap (λ j. readLine (getD (split lineFeed text) j [])) z ∙ q))),
-)
+times-whole t text =
+    let g = each-line (taskTimesWhole t) _ refl (task-times t) text in
+    (λ e n k h. g .0 e n h k, λ w. g .1 (λ n h k. w n k h))
+
+pub no-phase-zero : (text : List ℕ) → Tests (noPhaseZero text) (NoPhaseZero text)
+no-phase-zero text =
+    let g = each-line phaseNotZero _ refl phase-written text in
+    (λ e n s h. g .0 e n h s, λ w. g .1 (λ n h s. w n s h))

@@ -9,14 +9,14 @@ use lib.ListN.{getD}
 use lib.Seq.{getD-take}
 use borrow.Author.Tests.{eq-eqb, ne-eqb, lt-ltb, ltb-true}
 use Rattle.laws.specs.Rows.{sumBelow}
-use Rattle.laws.proofs.Choice.{clash, is-false, true-or-false}
+use Rattle.laws.proofs.Choice.{clash, is-false, true-or-false, le-or-lt}
 use Rattle.laws.proofs.Rows.{sum-cong}
 use Rattle.table.specs.declared.Mode.{Mode}
 use Rattle.table.specs.declared.Server.{Server}
 use Rattle.table.specs.declared.Task.{Task}
 use Rattle.table.specs.declared.Table.{Table}
 use Rattle.units.specs.declared.Ticks.{Ticks}
-use Rattle.table.specs.Rows.{Rows, rowsOf, noServer, noTask, serverAt, taskAt, periodAt, inMode}
+use Rattle.table.specs.Rows.{Rows, rowsOf, noServer, noTask, serverAt, taskAt, periodAt, phaseAt, inMode}
 use Rattle.table.specs.Rows.{limitAt}
 use Rattle.queues.specs.declared.Last.{Last}
 use Rattle.queues.specs.declared.Last.the-variants.{NoJob, Job}
@@ -39,7 +39,7 @@ use Rattle.events.proofs.Answers.{same-or-not, one-here}
 use Rattle.events.proofs.Answers.{one-is, one-eq, charged-is}
 use Rattle.promises.specs.Condition2.{OneTick, OnTheWay, Judging, stays, rises}
 use Rattle.promises.specs.Condition2.{is-cut, table, old, new, Ends, Discarded}
-use Rattle.promises.specs.Condition2.{Waits, Able, Highest, HighestTask, ByTheRules, leaves}
+use Rattle.promises.specs.Condition2.{Waits, Started, Able, Highest, HighestTask, ByTheRules, leaves}
 use Rattle.promises.specs.InUse.{SameRows, SameInUse, RulesSettle}
 use Rattle.promises.proofs.ByTheRules.{dropped, leftBy, waits-or-none}
 
@@ -133,11 +133,22 @@ waits-same f i k h =
       );
     }
 
+started-same : (x y : OneTick) → SameInUse (x .before) (y .before) → (i : ℕ) → i < table x .nservers → Started x i →
+    Started y i
+started-same x y s i l h =
+    omega (
+      arith,
+      h,
+      ap (λ (a : Server). a .phase .0) (server-same (s .tables) i l),
+      ap (λ (n : Ticks). n .0) (s .ticks),
+    )
+
 able-same : {x y : OneTick} {w v : OnTheWay} → Found x y w v → (i : ℕ) → Able x w i → Able y v i
-able-same f i h =
+able-same {x} {y} f i h =
     let e = server-same (f .same .tables) i (h .there) in
     record {
       there = omega (arith, f .same .tables .nservers, h .there);
+      started = started-same x y (f .same) i (h .there) (h .started);
       below =
           omega (
             arith,
@@ -379,7 +390,22 @@ module _ (x y : OneTick) (safe : sound (x .before) ≡ true) (marks : x .mark �
         elapsed =
             λ i m.
             let l = in-servers i m in
-            omega (arith, p .step7 .elapsed i l, q .step7 .elapsed i (server i l), counts i l .1);
+            elim (le-or-lt (phaseAt (table x) i) (old x .ticks .0)) [
+              | inl g ↦
+                  omega (
+                    arith,
+                    p .step7 .elapsed i l g,
+                    q .step7 .elapsed i (server i l) (started-same x y h i l g),
+                    counts i l .1,
+                  )
+              | inr g ↦
+                  omega (
+                    arith,
+                    p .step7 .stays i l (λ b. omega (arith, b)),
+                    q .step7 .stays i (server i l) (λ b. let c = started-same y x (same-back h) i (server i l) b in omega (arith, c)),
+                    counts i l .1,
+                  )
+            ];
         waiting = λ k m. waiting k (in-tasks k m);
         runs =
             λ k m.

@@ -1,10 +1,11 @@
--- Two runs, computed, that show the bounds at work: their premises can be met, and where one of
+-- Three runs, computed, that show the bounds at work: their premises can be met, and where one of
 -- their words is changed the statement is false. Assumes nothing.
 use mathlib.Core.Path.{_≡_, refl}
-use mathlib.Core.Bool.{Bool, true, false, _||_}
+use mathlib.Core.Bool.{Bool, true, false, _&&_, _||_}
 use mathlib.Core.List.{List, [], _∷_, _++_, map}
 use Prim.Native.Nat.{ℕ, _+_, _*_, _-_, _≤_, _<_}
 use native.Mathlib.Omega.{arith}
+use lib.Dec.{eqb}
 use lib.ListN.{length, replicate}
 use Rattle.laws.specs.RoundUp.{up}
 use Rattle.table.specs.declared.Kind.the-variants.{Timed}
@@ -19,9 +20,10 @@ use Rattle.events.specs.declared.Turn.the-variants.{Run as Ran, Empty}
 use Rattle.events.specs.declared.Event.{Event}
 use Rattle.events.specs.declared.Event.the-variants.{Release, Tick}
 use Rattle.run.specs.Release.{freshRun}
-use Rattle.table.specs.Example.{byMode, server, task, rows, example}
+use Rattle.table.specs.Example.{byMode, server, lateServer, task, rows, example}
 use Rattle.run.specs.Found.{TakenTick, takenTicks}
-use Rattle.promises.specs.Bounds.{inRow, charges, largestCapacity, touched, normal, wholePeriod}
+use Rattle.promises.specs.Bounds.{inRow, charges, inForceAt, largestCapacity, elapsedFirst, touched, normal}
+use Rattle.promises.specs.Bounds.{wholePeriod}
 use Rattle.promises.specs.Bounds.{waitsUntil}
 use Rattle.promises.proofs.Opened.{opened}
 use Rattle.promises.proofs.Bounds.{first-bound, second-bound}
@@ -235,7 +237,7 @@ needs-the-largest f =
 -- with the capacity in force at the first tick of the periods touched, which was in N: 2 again
 abbrev pub firstCapacity : Table → ℕ → List TakenTick → ℕ
 firstCapacity t i [] = 0
-firstCapacity t i (m ∷ ms) = capacityAt t (m .answer .mode) i
+firstCapacity t i (m ∷ ms) = inForceAt t i m
 
 pub needs-every-tick : FirstWith (λ t ms i s W. firstCapacity t i (touched t ms i s W) * (up (W - 1) (periodAt t i) + 1)) →
     ⊥
@@ -244,15 +246,15 @@ needs-every-tick f =
     let n : 4 ≤ 2 = f raised raisedEvents raisedTicks 1 2 4 refl refl (omega arith) (omega arith) (omega arith) in
     omega (arith, n)
 
--- The second bound, with other ticks to be normal, another test of who waits, and another number of
--- ticks for R.
-abbrev pub SecondWith : (List TakenTick → ℕ → ℕ → List TakenTick) → (Table → ℕ → ℕ → List TakenTick → Bool) → (ℕ → ℕ) →
-    Type 0
-SecondWith calm works first =
+-- The second bound, with other ticks to be normal, another test of a whole period, another of who
+-- waits, and another number of ticks for R.
+abbrev pub SecondWith : (List TakenTick → ℕ → ℕ → List TakenTick) → (Table → ℕ → List TakenTick → Bool) →
+    (Table → ℕ → ℕ → List TakenTick → Bool) → (ℕ → ℕ) → Type 0
+SecondWith calm whole works first =
     (t : Table) (es : List Event) (ms : List TakenTick) (i s R : ℕ) → tableKeeps t ≡ true →
     ms ≡ takenTicks (freshRun t) es → i < t .nservers → 1 ≤ capacityAt t N i →
     verdictOf t i N ≡ Response (record { 0 = R }) → normal (calm ms s (periodAt t i)) ≡ true →
-    wholePeriod t i (inRow ms s (periodAt t i)) ≡ true →
+    whole t i (inRow ms s (periodAt t i)) ≡ true →
     works t i (capacityAt t N i) (inRow ms s (periodAt t i)) ≡ true →
     (charges i (inRow ms s (periodAt t i)) ≡ capacityAt t N i) × (charges i (inRow ms s (first R)) ≡ capacityAt t N i)
 
@@ -263,12 +265,12 @@ abbrev pub timedOrWaits : Table → ℕ → ℕ → List TakenTick → Bool
 timedOrWaits t i C ms = isTimed (serverAt t i .kind) || waitsUntil t i C ms
 
 -- as it stands
-pub second-as-stated : SecondWith sinceTheStart timedOrWaits (λ R. R)
+pub second-as-stated : SecondWith sinceTheStart wholePeriod timedOrWaits (λ R. R)
 second-as-stated t es ms i s R e q l c v n u w = second-bound t es ms i s _ _ R e q l refl refl c v n u w
 
 -- with the mode normal in the period only: row 1 in the second run's ticks 6 to 8, where it is
 -- charged 0 times and not 1
-pub needs-since-the-start : SecondWith inRow timedOrWaits (λ R. R) → ⊥
+pub needs-since-the-start : SecondWith inRow wholePeriod timedOrWaits (λ R. R) → ⊥
 unfolding recomputed
 needs-since-the-start f =
     let n : (_≡_ {A = ℕ} 0 1) × (_≡_ {A = ℕ} 0 1) =
@@ -276,7 +278,7 @@ needs-since-the-start f =
     omega (arith, n .0)
 
 -- without a waiting job: row 0 in the first run's ticks 0 to 9, where no job waits
-pub needs-a-waiting-job : SecondWith sinceTheStart (λ t i C ms. true) (λ R. R) → ⊥
+pub needs-a-waiting-job : SecondWith sinceTheStart wholePeriod (λ t i C ms. true) (λ R. R) → ⊥
 unfolding computed
 needs-a-waiting-job f =
     let n : (_≡_ {A = ℕ} 0 2) × (_≡_ {A = ℕ} 0 2) =
@@ -285,10 +287,27 @@ needs-a-waiting-job f =
 
 -- within the first R - 1 ticks: row 0 is charged once in the first of its ticks 20 to 29, and its
 -- verdict is 2
-pub needs-all-of-R : SecondWith sinceTheStart timedOrWaits (λ R. R - 1) → ⊥
+pub needs-all-of-R : SecondWith sinceTheStart wholePeriod timedOrWaits (λ R. R - 1) → ⊥
 unfolding computed
 needs-all-of-R f =
     let n : (_≡_ {A = ℕ} 2 2) × (_≡_ {A = ℕ} 1 2) =
     f example events ticks 0 20 2 keeps-rules refl (omega arith) (omega arith) verdict-two normal-to-thirty third-period
     jobs-wait in
+    omega (arith, n .1)
+
+-- The third run: one timed server of period 2 and capacity 1, which starts with tick 1, and two
+-- ticks. With any two ticks in a row at whose first none is elapsed: ticks 0 and 1, where its one
+-- charge is in tick 1, after the phase, and its verdict is 1.
+unfoldable pub lateStart : Table
+lateStart = tableOf (rows (lateServer 1 0 Timed 1 2 (byMode 1 1 1) ∷ []) (task 0 0 1 HI (byMode 1 1 1) ∷ []))
+
+abbrev pub noneElapsed : Table → ℕ → List TakenTick → Bool
+noneElapsed t i ms = eqb (length ms) (periodAt t i) && eqb (elapsedFirst i ms) 0
+
+pub needs-the-phase : SecondWith sinceTheStart noneElapsed timedOrWaits (λ R. R) → ⊥
+unfolding computed lateStart
+needs-the-phase f =
+    let es = replicate 2 (Tick false) in
+    let n : (_≡_ {A = ℕ} 1 1) × (_≡_ {A = ℕ} 0 1) =
+    f lateStart es (takenTicks (freshRun lateStart) es) 0 0 1 refl refl (omega arith) (omega arith) refl refl refl refl in
     omega (arith, n .1)

@@ -4,14 +4,14 @@ use mathlib.Core.Path.{_≡_}
 use mathlib.Core.Bool.{Bool, true, false, _&&_, _||_}
 use mathlib.Core.List.{List, [], _∷_, _++_, map}
 use Prim.Native.Nat.{ℕ, _+_, _*_, _-_, _≤_, _<_}
-use lib.Dec.{eqb}
+use lib.Dec.{leb, eqb}
 use lib.ListN.{length, take, drop}
-use Rattle.laws.specs.Choice.{larger}
+use Rattle.laws.specs.Choice.{if_then_else_, larger}
 use Rattle.laws.specs.RoundUp.{up}
 use Rattle.table.specs.declared.Mode.{Mode}
 use Rattle.table.specs.declared.Mode.the-variants.{N, D1, D2}
 use Rattle.table.specs.declared.Table.{Table}
-use Rattle.table.specs.Rows.{serverAt, periodAt, capacityAt, isTimed}
+use Rattle.table.specs.Rows.{serverAt, periodAt, phaseAt, capacityAt, isTimed}
 use Rattle.table.specs.Rules.{tableKeeps}
 use Rattle.verdict.specs.declared.Verdict.the-variants.{Response}
 use Rattle.verdict.specs.Verdict.{verdictOf}
@@ -35,17 +35,27 @@ unfoldable pub charges : ℕ → List TakenTick → ℕ
 charges i [] = 0
 charges i (m ∷ ms) = charged (m .answer .turn) i + charges i ms
 
--- "its largest capacity in force": in the modes that these ticks' answers tell
+-- 02, No. 7: server i has started at a tick, by the number that the tick's answer tells
+abbrev pub startedAt : Table → ℕ → TakenTick → Bool
+startedAt t i m = leb (phaseAt t i) (m .answer .tick .0)
+
+-- its capacity "in force" at a tick: that of the mode that the tick's answer tells; "Until that tick
+-- the server has no budget"
+abbrev pub inForceAt : Table → ℕ → TakenTick → ℕ
+inForceAt t i m = if startedAt t i m then capacityAt t (m .answer .mode) i else 0
+
+-- "its largest capacity in force" in these ticks
 unfoldable pub largestCapacity : Table → ℕ → List TakenTick → ℕ
 largestCapacity t i [] = 0
-largestCapacity t i (m ∷ ms) = larger (capacityAt t (m .answer .mode) i) (largestCapacity t i ms)
+largestCapacity t i (m ∷ ms) = larger (inForceAt t i m) (largestCapacity t i ms)
 
 -- how many ticks of its period step 5 finds elapsed for server i at the first of these ticks
 abbrev pub elapsedFirst : ℕ → List TakenTick → ℕ
 elapsedFirst i [] = 0
 elapsedFirst i (m ∷ ms) = elapsedAt (m .found) i
 
--- the tick with which the period of server i begins that tick x lies in
+-- the tick with which the period of server i begins that tick x lies in; before its phase none is
+-- elapsed, and a tick lies in no period
 abbrev pub beginning : List TakenTick → ℕ → ℕ → ℕ
 beginning ms i x = x - elapsedFirst i (drop x ms)
 
@@ -73,10 +83,15 @@ unfoldable pub normal : List TakenTick → Bool
 normal [] = true
 normal (m ∷ ms) = isNormal (m .answer .mode) && normal ms
 
+-- server i has started at the first of these ticks
+abbrev pub startedFirst : Table → ℕ → List TakenTick → Bool
+startedFirst t i [] = true
+startedFirst t i (m ∷ ms) = startedAt t i m
+
 -- "each whole period": these ticks are as many as the period of server i, and step 5 finds none of it elapsed at the
--- first
+-- first; 02, No. 7, of the phase: "whole periods after it"
 abbrev pub wholePeriod : Table → ℕ → List TakenTick → Bool
-wholePeriod t i ms = eqb (length ms) (periodAt t i) && eqb (elapsedFirst i ms) 0
+wholePeriod t i ms = eqb (length ms) (periodAt t i) && eqb (elapsedFirst i ms) 0 && startedFirst t i ms
 
 -- "has a waiting job at each tick until C is reached": at each of these ticks until server i is charged c times in them
 unfoldable pub waitsUntil : Table → ℕ → ℕ → List TakenTick → Bool
@@ -111,10 +126,10 @@ answersOf = map (λ m. m .answer)
 abbrev pub FromTheAnswers : Type 0
 FromTheAnswers = (r : Run) (es : List Event) → answersOf (takenTicks r es) ≡ tickAnswers (answers r es)
 
--- From a fresh start the whole periods of a server of period T are the T ticks from tick 0 on, from tick T on, from 2 T
--- on, ..
+-- From a fresh start the whole periods of a server of period T and phase F are the T ticks from tick F on, from tick
+-- F + T on, from F + 2 T on, ..: "from it on, periods count from it"
 abbrev pub PeriodsFromTheStart : Type 0
 PeriodsFromTheStart =
-    (t : Table) (es : List Event) (ms : List TakenTick) (i q T : ℕ) → tableKeeps t ≡ true →
-    ms ≡ takenTicks (freshRun t) es → i < t .nservers → T ≡ periodAt t i → q * T + T ≤ length ms →
-    wholePeriod t i (inRow ms (q * T) T) ≡ true
+    (t : Table) (es : List Event) (ms : List TakenTick) (i q T F : ℕ) → tableKeeps t ≡ true →
+    ms ≡ takenTicks (freshRun t) es → i < t .nservers → T ≡ periodAt t i → F ≡ phaseAt t i →
+    F + q * T + T ≤ length ms → wholePeriod t i (inRow ms (F + q * T) T) ≡ true

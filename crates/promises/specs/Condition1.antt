@@ -35,16 +35,18 @@ use Rattle.table.specs.declared.Table.{Table}
 use Rattle.table.specs.declared.Standing.{Standing}
 use Rattle.table.specs.Refusals.{numberOf, standingNumber, standingField}
 use Rattle.table.specs.Rows.{Rows, rowsOf, noRows, noTable, noServer, noTask, serverAt, taskAt}
-use Rattle.table.specs.Rows.{periodAt, limitAt, largest}
+use Rattle.table.specs.Rows.{periodAt, phaseAt, limitAt, largest}
 use Rattle.table.specs.Rules.{taskFault, tableKeeps}
 use Rattle.text.specs.declared.Word.{Word}
 use Rattle.text.specs.declared.Word.the-variants.{ATick, AServer, ATask, Unknown}
+use Rattle.text.specs.declared.LastField.the-variants.{Given}
+use Rattle.text.specs.declared.ServerLine.{ServerLine}
 use Rattle.text.specs.declared.TaskLine.{TaskLine}
 use Rattle.text.specs.declared.Line.{Line}
 use Rattle.text.specs.declared.Line.the-variants.{OfTick, OfServer, OfTask, Malformed}
 use Rattle.text.specs.declared.Read.{Read}
 use Rattle.text.specs.Line.{fieldAt, serverSaid, taskSaid, leading, readLine}
-use Rattle.text.specs.Standing.{limitsOf, standing}
+use Rattle.text.specs.Standing.{phaseSaid, limitsOf, standing}
 use Rattle.text.specs.Read.{readingNumber, readingValues, read, shown}
 use Rattle.text.specs.Allowed.{grownBy, Allowed}
 use Rattle.text.specs.Write.{Wrote, write, writingNumber, writingValues, wrote}
@@ -263,13 +265,16 @@ tickAsked n fs =
 -- 33rd server or 65th task is 2 at its line." "partition 0 to 15; kind; priority 1 to 255, greater
 -- first; period; capacities in N, D1, D2. Period 1 to 1,000,000 ticks, capacity 0 to the period,
 -- all whole ticks. These bounds are compared in microseconds." Of a capacity and the period "the
--- later where two fields disagree". 3, "period or capacity not whole ticks".
+-- later where two fields disagree". 3, "period or capacity not whole ticks". No. 7: a phase "as a
+-- last field", which may be absent; "a phase above the period less one tick, in microseconds, is 2,
+-- not whole ticks is 3".
 abbrev pub serverAsked : ℕ → Rows → List (List ℕ) → List {1} Asked
 serverAsked n a fs =
     let s = serverSaid fs in
     let t = a .tick .0 in
+    let phase = phaseSaid (s .phase) .0 in
     (no 1 at 0 unless ((2 ≤ n) × (length (a .tasks) ≡ 0)))
-    ∷ (no 1 at 0 unless (length fs ≡ 7))
+    ∷ (no 1 at 0 unless Within 7 8 (length fs))
     ∷ (no 1 at 1 unless IsNumber (fieldAt fs 1))
     ∷ (no 1 at 2 unless IsKind (fieldAt fs 2))
     ∷ (no 1 at 3 unless IsNumber (fieldAt fs 3))
@@ -277,6 +282,7 @@ serverAsked n a fs =
     ∷ (no 1 at 5 unless IsNumber (fieldAt fs 5))
     ∷ (no 1 at 6 unless IsNumber (fieldAt fs 6))
     ∷ (no 1 at 7 unless IsNumber (fieldAt fs 7))
+    ∷ (no 1 at 8 unless (8 ≤ length fs → IsNumber (fieldAt fs 8)))
     ∷ (no 2 at 0 unless (length (a .servers) < 32))
     ∷ (no 2 at 1 unless Within 0 15 (s .partition))
     ∷ (no 2 at 3 unless Within 1 255 (s .priority))
@@ -284,10 +290,12 @@ serverAsked n a fs =
     ∷ (no 2 at 5 unless (s .capacity .n .0 ≤ s .period .0))
     ∷ (no 2 at 6 unless (s .capacity .d1 .0 ≤ s .period .0))
     ∷ (no 2 at 7 unless (s .capacity .d2 .0 ≤ s .period .0))
+    ∷ (no 2 at 8 unless (phase + t ≤ s .period .0))
     ∷ (no 3 at 4 unless (s .period .0 % t ≡ 0))
     ∷ (no 3 at 5 unless (s .capacity .n .0 % t ≡ 0))
     ∷ (no 3 at 6 unless (s .capacity .d1 .0 % t ≡ 0))
     ∷ (no 3 at 7 unless (s .capacity .d2 .0 % t ≡ 0))
+    ∷ (no 3 at 8 unless (phase % t ≡ 0))
     ∷ []
 
 -- the kind and the partition of server row i
@@ -412,7 +420,8 @@ EachFault =
     FaultNumbers ss home degraded limit (taskFault ss home degraded limit)
 
 -- A TABLE AND A STATE THAT ARE HANDED IN, number 13: "a table or state handed in breaks the rules
--- of this page". The rules of 01, Tables, in ticks, of the rows in use.
+-- of this page". The rules of 01, Tables, in ticks, of the rows in use; No. 7: "a phase, 0 to period
+-- less 1".
 abbrev pub ServerRow : Server → Type 0
 ServerRow s =
     All
@@ -422,6 +431,7 @@ ServerRow s =
     ∷ (s .capacity .n .0 ≤ s .period .0)
     ∷ (s .capacity .d1 .0 ≤ s .period .0)
     ∷ (s .capacity .d2 .0 ≤ s .period .0)
+    ∷ (s .phase .0 < s .period .0)
     ∷ [])
 
 abbrev pub TaskRow : List Server → Task → Type 0
@@ -457,13 +467,14 @@ TableExactly =
     (Within 1 32 (t .nservers) × Within 1 64 (t .ntasks) × RowsKept (rowsOf t))
 
 -- "each server's elapsed count is at most its period, and its used count at most elapsed and at
--- most its largest capacity"
+-- most its largest capacity". 02, No. 7: "a server before its phase has used 0 and elapsed 0".
 abbrev pub SoundServer : Table → State → ℕ → Type 0
 SoundServer t s i =
     All
     ((elapsedAt s i ≤ periodAt t i)
     ∷ (usedAt s i ≤ elapsedAt s i)
     ∷ (usedAt s i ≤ largest (serverAt t i .capacity) .0)
+    ∷ (s .ticks .0 < phaseAt t i → (usedAt s i ≡ 0) × (elapsedAt s i ≡ 0))
     ∷ [])
 
 -- "each task has at most 16 waiting; the front job's run count is 0 if none waits and else below
@@ -658,11 +669,18 @@ TimesWhole t text =
     All
     ((k .limit .n .0 % t ≡ 0) ∷ (k .limit .d1 .0 % t ≡ 0) ∷ (k .limit .d2 .0 % t ≡ 0) ∷ [])
 
--- "Reading then writing gives the same text exactly when each task time was whole ticks."
+-- "no phase 0 was written"
+abbrev pub NoPhaseZero : List ℕ → Type 0
+NoPhaseZero text =
+    (n : ℕ) (s : ServerLine) → 1 ≤ n → lineAt text n ≡ OfServer s → s .phase ≡ Given (record { 0 = 0 }) → ⊥
+
+-- "Reading then writing gives the same text exactly when each task time was whole ticks." No. 7:
+-- "01's rule on reading then writing also asks that no phase 0 was written".
 abbrev pub ReadThenWrite : Type 0
 ReadThenWrite =
     (text : List ℕ) → Reads text 0 [] →
-    (textOf (readAs text .table) ≡ text) ↔ TimesWhole (readAs text .table .tick .0) text
+    (textOf (readAs text .table) ≡ text) ↔
+    (TimesWhole (readAs text .table .tick .0) text × NoPhaseZero text)
 
 -- VERDICTS: 13, then 11; 0 where one is given.
 abbrev pub verdictNumber : Verdict → ℕ
@@ -772,6 +790,10 @@ TableLines =
     ∷ Refuses (below tick "server\t16\ttimed\t0\t2000\t1000\t1000\t1000") "table\tno\t2\t2\t1"
     ∷ Refuses (below tick "server\t0\ttimed\t1\t2000\t1000\t3000\t1000") "table\tno\t2\t2\t6"
     ∷ Refuses (below tick "server\t0\ttimed\t1\t2500\t1000\t1000\t1500") "table\tno\t3\t2\t4"
+    ∷ Refuses (below tick "server\t0\ttimed\t1\t2000\t1000\t1000\t1000\t") "table\tno\t1\t2\t8"
+    ∷ Refuses (below tick "server\t0\ttimed\t1\t2000\t1000\t1000\t1000\t\t") "table\tno\t1\t2\t0"
+    ∷ Refuses (below tick "server\t0\ttimed\t1\t2000\t1000\t1000\t1000\t2000") "table\tno\t2\t2\t8"
+    ∷ Refuses (below tick "server\t0\ttimed\t1\t2000\t1000\t1000\t1000\t500") "table\tno\t3\t2\t8"
     ∷ Refuses (below smallText "task\t1\t1\t2\tLO\t1000\t1000\t1000") "table\tno\t41\t4\t1"
     ∷ Refuses (below smallText "task\t0\t1\t2\tLO\t1000\t1000\t1000") "table\tno\t41\t4\t2"
     ∷ Refuses (below smallText "task\t0\t0\t2\tLO\t3000\t2000\t1000") "table\tno\t45\t4\t6"

@@ -15,7 +15,7 @@ use Rattle.table.specs.declared.Level.the-variants.{LO}
 use Rattle.table.specs.declared.Mode.{Mode}
 use Rattle.table.specs.declared.Mode.the-variants.{N, D2}
 use Rattle.table.specs.declared.Table.{Table}
-use Rattle.table.specs.Rows.{serverAt, taskAt, periodAt, priorityAt, capacityAt, limitAt}
+use Rattle.table.specs.Rows.{serverAt, taskAt, periodAt, phaseAt, priorityAt, capacityAt, limitAt}
 use Rattle.table.specs.Rows.{taskPriorityAt}
 use Rattle.table.specs.Rules.{tableKeeps}
 use Rattle.table.specs.Inner.{Sized}
@@ -192,9 +192,15 @@ pub record Waits (x : OneTick) (i k : ℕ) : Type 0 where
   pub waiting : 0 < waitingAt (new x) k
   pub belongs : Belongs x k i
 
+-- 02, No. 7: "Until that tick the server has no budget and is not able; from it on, periods count
+-- from it." A tick's number is that of the ticks taken before it.
+abbrev pub Started : OneTick → ℕ → Type 0
+Started x i = phaseAt (table x) i ≤ old x .ticks .0
+
 -- "Able servers: used below capacity in the present mode, and timed, or with a waiting job."
 pub record Able (x : OneTick) (w : OnTheWay) (i : ℕ) : Type 0 where
   pub there : i < table x .nservers
+  pub started : Started x i
   pub below : w .used i < capacityAt (table x) (x .says .mode) i
   pub cause : (serverAt (table x) i .kind ≡ Timed) ⊎ ((k : ℕ) × Waits x i k)
 
@@ -225,9 +231,11 @@ pub record Step6 (x : OneTick) (w : OnTheWay) : Type 0 where
       w .runs k ≡ runsAt (old x) k
   pub runs : (k : ℕ) → k < table x .ntasks → runsAt (new x) k ≡ w .runs k + ran (x .says .turn) k
 
--- "All elapsed counts and the tick number rise by 1."
+-- "All elapsed counts and the tick number rise by 1." Until a server has started its elapsed count
+-- stays.
 pub record Step7 (x : OneTick) (w : OnTheWay) : Type 0 where
-  pub elapsed : (i : ℕ) → i < table x .nservers → elapsedAt (new x) i ≡ w .elapsed i + 1
+  pub elapsed : (i : ℕ) → i < table x .nservers → Started x i → elapsedAt (new x) i ≡ w .elapsed i + 1
+  pub stays : (i : ℕ) → i < table x .nservers → (Started x i → ⊥) → elapsedAt (new x) i ≡ w .elapsed i
   pub ticks : new x .ticks .0 ≡ old x .ticks .0 + 1
   pub tick : x .says .tick ≡ old x .ticks
   pub accepted : new x .accepted ≡ old x .accepted

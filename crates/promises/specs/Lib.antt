@@ -11,3 +11,4 @@ pub mod Dummies
 pub mod InUse
 pub mod Morning
 pub mod OldReading
+pub mod Phases

@@ -2,7 +2,8 @@
 -- a table text as it was before that request, its names beginning with `old`, and the statement
 -- that nothing else moved. Two things are put in another way than they were: a refusal is its
 -- number, and the leading words are asked by name, since a form no longer holds its word. But for
--- the forms so shortened, what is imported for the old reading is what the request left alone.
+-- the forms so shortened, what is imported for the old reading is what the request left alone. The
+-- phase of No. 7 stands in both readings: it came later, and has no number of its own.
 -- proofs/OldReading.antt proves the statement.
 use mathlib.Core.Path.{_≡_}
 use mathlib.Core.Bool.{Bool, true, false, not, _&&_}
@@ -28,7 +29,7 @@ use Rattle.text.specs.declared.Reading.the-variants.{Taken, Refused, Equal}
 use Rattle.text.specs.Words.{tickWord, serverWord, taskWord}
 use Rattle.text.specs.Line.{Expected, fits, Form, tickForm, serverForm, taskForm}
 use Rattle.text.specs.Line.{microsAt, serverSaid, taskSaid}
-use Rattle.text.specs.Standing.{isNil, serverOf, limitsOf, taskOf, whole}
+use Rattle.text.specs.Standing.{isNil, phaseSaid, serverOf, limitsOf, taskOf, whole}
 use Rattle.text.specs.Read.{readingNumber, ReadRows, read}
 
 -- What a line said: of one that is malformed neither the leading word nor a field.
@@ -76,7 +77,7 @@ oldPlaced n a oldMalformed = false
 -- 2, "a number or row count out of bounds". "A 33rd server or 65th task is 2 at its line."
 -- "partition 0 to 15; kind; priority 1 to 255, greater first; period; capacities in N, D1, D2.
 -- Period 1 to 1,000,000 ticks, capacity 0 to the period, all whole ticks. These bounds are compared
--- in microseconds."
+-- in microseconds." No. 7: "a phase above the period less one tick, in microseconds, is 2".
 unfoldable pub oldServerBounds : ℕ → ℕ → ServerLine → List Bool
 oldServerBounds rows t s =
     ltb rows 32
@@ -86,6 +87,7 @@ oldServerBounds rows t s =
     ∷ leb (s .capacity .n .0) (s .period .0)
     ∷ leb (s .capacity .d1 .0) (s .period .0)
     ∷ leb (s .capacity .d2 .0) (s .period .0)
+    ∷ leb (phaseSaid (s .phase) .0 + t) (s .period .0)
     ∷ []
 
 -- "priority 1 to 255, greater first; level; limits for N, D1, D2, each rounded up to a tick, then 1
@@ -105,13 +107,14 @@ oldBounds a (oldServer s) = oldServerBounds (length (a .servers)) (a .tick .0) s
 oldBounds a (oldTask k) = oldTaskBounds (length (a .tasks)) (a .tick .0) k
 oldBounds a oldMalformed = []
 
--- 3, "period or capacity not whole ticks"
+-- 3, "period or capacity not whole ticks"; No. 7, of a phase: "not whole ticks is 3"
 unfoldable pub oldServerWhole : ℕ → ServerLine → List Bool
 oldServerWhole t s =
     whole t (s .period)
     ∷ whole t (s .capacity .n)
     ∷ whole t (s .capacity .d1)
     ∷ whole t (s .capacity .d2)
+    ∷ whole t (phaseSaid (s .phase))
     ∷ []
 
 unfoldable pub oldWholes : Rows → OldLine → List Bool

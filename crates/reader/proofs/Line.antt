@@ -7,6 +7,8 @@ use Prim.Native.Nat.{ℕ, _+_, _-_, _≤_, _<_}
 use native.Mathlib.Omega.{arith}
 use native.Mathlib.Nat.{zero-add}
 use native.Mathlib.Numerals.{add-one}
+use lib.Dec.{ltb}
+use borrow.Author.Tests.{ltb-false}
 use lib.ListN.{length, getD, take, drop, length-take, length-append, List·getD-append}
 use lib.Seq.{getD-take, getD-append-seam, take-take, take-suc, take-append-seam}
 use Rattle.laws.specs.declared.Found.{Found}
@@ -14,6 +16,7 @@ use Rattle.laws.specs.declared.Found.the-variants.{At, Nothing}
 use Rattle.laws.specs.Choice.{if_then_else_}
 use Rattle.laws.proofs.Choice.{clash, is-false}
 use Rattle.laws.specs.Search.{firstFailed}
+use Rattle.laws.proofs.Search.{failed-none}
 use Rattle.decimal.specs.Lines.{tab, lineFeed, same}
 use Rattle.decimal.specs.declared.End.{End}
 use Rattle.decimal.specs.Inner.Fields.{firstLine, fieldsFrom, firstField, fieldEnd}
@@ -21,18 +24,20 @@ use Rattle.decimal.proofs.Lines.{split-some, Finds, high, high-at, same-eq, sam
 use Rattle.decimal.proofs.Inner.Fields.{end-past-high, end-tab, end-within, end-taken, field-taken, field-more, field-last, line-behind-tab, line-on-from, line-found}
 use Rattle.table.specs.declared.Kind.{Kind}
 use Rattle.table.specs.declared.Level.{Level}
+use Rattle.text.specs.declared.LastField.{LastField}
+use Rattle.text.specs.declared.LastField.the-variants.{Absent, Given}
 use Rattle.text.specs.declared.Word.{Word}
 use Rattle.text.specs.declared.Word.the-variants.{ATick, AServer, ATask, Unknown}
 use Rattle.text.specs.declared.Line.{Line}
 use Rattle.text.specs.declared.Line.the-variants.{OfTick, OfServer, OfTask, Malformed}
 use Rattle.text.specs.Words.{tickWord, serverWord, taskWord, timedWord, miWord, hiWord, kindOf, levelOf}
-use Rattle.text.specs.Line.{aNumber, aKind, aLevel, Form, tickForm, serverForm, taskForm, formTests, microsAt, serverSaid, taskSaid, leading, wordOf, unlessWrong, formedOr, formed, lineBy, lineOf, readLine}
-use Rattle.text.proofs.Lines.{no-fields}
+use Rattle.text.specs.Line.{aNumber, aKind, aLevel, Form, tickForm, serverForm, taskForm, formTests, microsAt, lastAt, serverSaid, taskSaid, leading, wordOf, unlessWrong, formedOr, formed, lineBy, lineOf, readLine}
+use Rattle.text.proofs.Lines.{form-count, no-fields}
 use Rattle.reader.specs.declared.fields.Fields.{Fields}
-use Rattle.reader.specs.Inner.Fields.{valueOf, kindAt, levelAt, lineEnd, noFields, passed}
+use Rattle.reader.specs.Inner.Fields.{valueOf, kindAt, levelAt, lastOf, lineEnd, noFields, passed}
 use Rattle.reader.specs.declared.forms.WordRead.{WordRead}
 use Rattle.reader.specs.Inner.Lines.{firstWord, lineRead, readBehind, firstRead}
-use Rattle.reader.proofs.Inner.Fields.{pass-ends, pass-wrong, pass-values}
+use Rattle.reader.proofs.Inner.Fields.{pass-ends, pass-wrong, pass-values, pass-many}
 
 -- a word by its place
 kind-said : (f : List ℕ) → kindAt (valueOf aKind f) ≡ kindOf f
@@ -92,11 +97,36 @@ module _ (form : Form) (text : List ℕ) (from : ℕ) (r : Fields) (read : ReadA
     form-has : (said : Line) → said ≡ formed form (fieldsFrom text from) said
     form-has said = form-right (Malformed (wordOf said)) said
 
-    pub value-read : length (form .fields) ≤ 7 → (i : ℕ) → i < form .least →
+    value-at : length (form .fields) ≤ 8 → (i : ℕ) → i < length (fieldsFrom text from) →
         getD (r .values) i 0 ≡ valueOf (getD (form .fields) i aNumber) (getD (fieldsFrom text from) i [])
-    value-read l i h =
+    value-at l i h =
         ap (λ (x : Fields). getD (x .values) i 0) read
         ∙ pass-values form (fieldsFrom text from) (lineEnd text from) (first-wrong Nothing none) l i h
+
+    pub value-read : length (form .fields) ≤ 8 → (i : ℕ) → i < form .least →
+        getD (r .values) i 0 ≡ valueOf (getD (form .fields) i aNumber) (getD (fieldsFrom text from) i [])
+    value-read l i h =
+        let has = failed-none (formTests form (fieldsFrom text from)) .0 (first-wrong Nothing none) in
+        value-at l i (omega (arith, form-count form (fieldsFrom text from) has .0))
+
+    many-read : r .count ≡ length (fieldsFrom text from)
+    many-read =
+        ap (λ (x : Fields). x .count) read
+        ∙ pass-many form (fieldsFrom text from) (lineEnd text from) (first-wrong Nothing none)
+        (split-some tab (firstLine (drop from text)))
+
+    -- field k, the last of its form, a number
+    pub last-read : (k : ℕ) → 0 < k → length (form .fields) ≤ 8 → getD (form .fields) (k - 1) aNumber ≡ aNumber →
+        lastOf (r .count) k (getD (r .values) (k - 1) 0) ≡ lastAt (fieldsFrom text from) k
+    last-read k p l e = rw many-read (go (ltb (length (fieldsFrom text from)) k) refl)
+      where
+        go : (b : Bool) → ltb (length (fieldsFrom text from)) k ≡ b →
+            (if b then Absent else Given (record { 0 = getD (r .values) (k - 1) 0 }))
+            ≡ (if b then Absent else Given (microsAt (fieldsFrom text from) k))
+        go true q = refl
+        go false q =
+            let h = ltb-false (length (fieldsFrom text from)) k q in
+            rw (rw e at (value-at l (k - 1) (omega arith)))
 
 -- and what it says where no field is wrong
 module _ (text : List ℕ) (from : ℕ) (r : Fields) where
@@ -108,7 +138,8 @@ module _ (text : List ℕ) (from : ℕ) (r : Fields) where
       rw (value-read tickForm text from r e w (omega arith) 0 (omega arith))
       (form-has tickForm text from r e w (OfTick (microsAt (fieldsFrom text from) 1)))
 
-  pub server-read : (kind : Kind) → kind ≡ kindAt (getD (r .values) 1 0) →
+  pub server-read : (kind : Kind) (phase : LastField) → kind ≡ kindAt (getD (r .values) 1 0) →
+      phase ≡ lastOf (r .count) 8 (getD (r .values) 7 0) →
       ReadAs serverForm text from r → r .wrong ≡ Nothing →
       OfServer (record {
         partition = getD (r .values) 0 0;
@@ -120,12 +151,14 @@ module _ (text : List ℕ) (from : ℕ) (r : Fields) where
           d1 = record { 0 = getD (r .values) 5 0 };
           d2 = record { 0 = getD (r .values) 6 0 };
         };
+        phase = phase;
       }) ≡ formed serverForm (fieldsFrom text from) (OfServer (serverSaid (fieldsFrom text from)))
   unfolding serverForm
-  server-read kind k e w =
+  server-read kind phase k p e w =
       let v = value-read serverForm text from r e w (omega arith) in
       rw (
         k,
+        p ∙ last-read serverForm text from r e w 8 (omega arith) (omega arith) refl,
         v 0 (omega arith),
         v 1 (omega arith),
         v 2 (omega arith),

@@ -1,9 +1,11 @@
 -- How a line stands, by the counts of the rows above it and the two rows that it names, and what
 -- the bounds mean for its row. Assumes nothing.
-use mathlib.Core.Path.{_≡_}
-use mathlib.Core.Bool.{true}
-use Prim.Native.Nat.{ℕ, _*_, _≤_, _<_}
+use mathlib.Core.Path.{_≡_, refl, sym}
+use mathlib.Core.Bool.{Bool, true, false}
+use Prim.Native.Nat.{ℕ, _+_, _*_, _-_, _≤_, _<_}
 use native.Mathlib.Omega.{arith}
+use lib.Dec.{leb}
+use borrow.Author.Tests.{leb-true, leb-false, le-leb, lt-leb}
 use Rattle.laws.specs.Choice.{every}
 use Rattle.laws.specs.Search.{least, firstFailed}
 use Rattle.laws.specs.RoundUp.{up}
@@ -17,7 +19,7 @@ use Rattle.text.specs.declared.TaskLine.{TaskLine}
 use Rattle.text.specs.declared.Word.the-variants.{ATick, AServer, ATask}
 use Rattle.text.specs.declared.Line.{Line}
 use Rattle.text.specs.declared.Line.the-variants.{OfTick, OfServer, OfTask, Malformed as MalformedLine}
-use Rattle.text.specs.Standing.{serverBounds, bounds, wholes, limitsOf, taskOf, fault, standing}
+use Rattle.text.specs.Standing.{phaseSaid, serverBounds, bounds, wholes, limitsOf, taskOf, fault, standing}
 use Rattle.reader.specs.declared.rules.Named.{Named}
 use Rattle.reader.specs.Inner.{Above, FewTicks, namedRows, standingBy}
 use Rattle.reader.proofs.Inner.{servers-count, tasks-count, servers-length, placed-by}
@@ -55,6 +57,14 @@ standing-by n t a (OfTask k) r e =
     )
 standing-by n t a (MalformedLine word field) r e = rw (placed-by t (a .whole) n word)
 
+-- a tick is left of the period after a phase within it
+pub tick-left : (phase t period : ℕ) → phase ≤ period → leb t (period - phase) ≡ leb (phase + t) period
+tick-left phase t period h = go (leb t (period - phase)) refl
+  where
+    go : (b : Bool) → leb t (period - phase) ≡ b → b ≡ leb (phase + t) period
+    go true e = sym (le-leb (phase + t) period (omega (arith, leb-true t (period - phase) e)))
+    go false e = sym (lt-leb (phase + t) period (omega (arith, leb-false t (period - phase) e)))
+
 -- what the bounds say of the numbers of a row, in ticks
 pub record ServerFits (t : ℕ) (s : ServerLine) : Type 0 where
   pub partition : s .partition ≤ 15
@@ -63,6 +73,7 @@ pub record ServerFits (t : ℕ) (s : ServerLine) : Type 0 where
   pub n : s .capacity .n .0 ≤ 1000000 * t
   pub d1 : s .capacity .d1 .0 ≤ 1000000 * t
   pub d2 : s .capacity .d2 .0 ≤ 1000000 * t
+  pub phase : phaseSaid (s .phase) .0 ≤ 1000000 * t
 
 pub server-fits : (m t : ℕ) (s : ServerLine) → every (serverBounds m t s) ≡ true → ServerFits t s
 server-fits m t s e =
@@ -74,6 +85,7 @@ server-fits m t s e =
       n = omega (arith, w .period-high, w .n);
       d1 = omega (arith, w .period-high, w .d1);
       d2 = omega (arith, w .period-high, w .d2);
+      phase = omega (arith, w .period-high, w .phase);
     }
 
 pub record TaskFits (t : ℕ) (k : TaskLine) : Type 0 where

@@ -14,13 +14,15 @@ ghost use Rattle.text.specs.Line.{aKind, aLevel};
 ghost use Rattle.reader.specs.Inner.Fields.{expectedOf, readField, fieldAs, firstWrong, valueIn, counted, fieldsPassed};
 
 // The most fields that a kind of line has after its leading word.
-pub const FIELDS: usize = 7;
+pub const FIELDS: usize = 8;
 
 // The first field that is not as it should be, from 1, or 0 for their count; the number of each: the
-// worth of a number, the place of a word among those of its kind; and where the line ends.
+// worth of a number, the place of a word among those of its kind; how many were read; and where the
+// line ends.
 pub struct Fields {
     pub wrong: Found,
     pub values: [u64; FIELDS],
+    pub count: usize,
     pub end: usize,
 }
 
@@ -105,7 +107,7 @@ fn count(wrong: Found, n: usize, least: usize) -> Found
 }
 
 pub(crate) fn read_fields(text: &[u8], from: usize, shape: &[u8], least: usize) -> Fields
-    requires { ⌜ (from ≤ length (now text)) × (length (now shape) ≤ 7) ⌝ }
+    requires { ⌜ (from ≤ length (now text)) × (length (now shape) ≤ 8) ⌝ }
     ensures { λ r. ⌜ r ≡ fieldsPassed least (now (shape .entry)) (now (text .entry)) from ⌝ }
 {
     let mut values = [0; FIELDS];
@@ -121,6 +123,7 @@ pub(crate) fn read_fields(text: &[u8], from: usize, shape: &[u8], least: usize) 
             return Fields {
                 wrong: told,
                 values,
+                count: k + 1,
                 end: f.end.at,
             };
         }
@@ -130,6 +133,7 @@ pub(crate) fn read_fields(text: &[u8], from: usize, shape: &[u8], least: usize) 
     Fields {
         wrong: Found::At(THE_LINE),
         values,
+        count: shape.len(),
         end,
     }
 }

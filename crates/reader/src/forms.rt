@@ -8,6 +8,7 @@ use laws::Found;
 use table::Kind;
 use table::Level;
 use table::THE_LINE;
+use text::LastField;
 use text::Line;
 use text::ServerLine;
 use text::TaskLine;
@@ -20,7 +21,7 @@ ghost use lib.ListN.{length, take};
 ghost use Rattle.decimal.specs.Lines.{same};
 ghost use Rattle.text.specs.declared.Word.the-variants.{ATick, AServer, ATask};
 ghost use Rattle.text.specs.Line.{leading};
-ghost use Rattle.reader.specs.Inner.Fields.{kindAt, levelAt};
+ghost use Rattle.reader.specs.Inner.Fields.{kindAt, levelAt, lastOf};
 ghost use Rattle.reader.specs.Inner.Lines.{firstWord, readBehind, firstRead};
 
 // Where the fields begin behind a leading word and its tab.
@@ -57,6 +58,16 @@ fn level_at(v: u64) -> Level
     Level::LO
 }
 
+// Field k, the last of its form, where a line of so many fields goes so far. Its number is v.
+fn last_at(count: usize, k: usize, v: u64) -> LastField
+    ensures { λ r. ⌜ r ≡ lastOf count k v ⌝ }
+{
+    if count < k {
+        return LastField::Absent;
+    }
+    LastField::Given(Micros(v))
+}
+
 fn tick_line(text: &[u8], from: usize) -> LineRead
     requires { ⌜ from ≤ length (now text) ⌝ }
     ensures { λ r. ⌜ r ≡ readBehind ATick (now (text .entry)) from ⌝ }
@@ -77,7 +88,7 @@ fn server_line(text: &[u8], from: usize) -> LineRead
     requires { ⌜ from ≤ length (now text) ⌝ }
     ensures { λ r. ⌜ r ≡ readBehind AServer (now (text .entry)) from ⌝ }
 {
-    let f = fields::read_fields(text, from, b"nknnnnn", 7);
+    let f = fields::read_fields(text, from, b"nknnnnnn", 7);
     let end = f.end;
     let wrong = f.wrong;
     if let Found::At(field) = wrong {
@@ -86,6 +97,7 @@ fn server_line(text: &[u8], from: usize) -> LineRead
     }
     let v = f.values;
     let kind = kind_at(v[1]);
+    let phase = last_at(f.count, 8, v[7]);
     let capacity = Times {
         n: Micros(v[4]),
         d1: Micros(v[5]),
@@ -97,6 +109,7 @@ fn server_line(text: &[u8], from: usize) -> LineRead
         priority: v[2],
         period: Micros(v[3]),
         capacity,
+        phase,
     });
     LineRead { line, end }
 }

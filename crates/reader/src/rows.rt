@@ -4,6 +4,7 @@
 use table::ByMode;
 use table::Server;
 use table::Task;
+use text::LastField;
 use text::ServerLine;
 use text::TaskLine;
 use text::Times;
@@ -15,7 +16,7 @@ ghost use Prim.Native.Nat.{_*_, _≤_, _<_};
 ghost use Rattle.laws.specs.Choice.{every};
 ghost use Rattle.laws.specs.RoundUp.{up};
 ghost use Rattle.table.specs.Rules.{taskKeeps};
-ghost use Rattle.text.specs.Standing.{inTicks, serverOf, roundedUp, limitsOf, taskOf, serverBounds};
+ghost use Rattle.text.specs.Standing.{inTicks, phaseSaid, serverOf, roundedUp, limitsOf, taskOf, serverBounds};
 ghost use Rattle.reader.specs.Inner.{FewTicks};
 
 // "each rounded up to a tick". A time may be of more ticks than 32 bits hold: its bound is judged
@@ -32,7 +33,17 @@ pub(crate) fn round_up(u: Micros, tick: Micros) -> Ticks
     Ticks(n as u32 + 1)
 }
 
-// "all whole ticks": of a period, or of a capacity, which is at most the period.
+// "A row without the field has phase 0".
+pub(crate) fn phase_said(p: LastField) -> Micros
+    ensures { λ r. ⌜ r ≡ phaseSaid p ⌝ }
+{
+    match p {
+        LastField::Absent => Micros(0),
+        LastField::Given(u) => u,
+    }
+}
+
+// "all whole ticks": of a period, or of a capacity or a phase, which is at most the period.
 fn in_ticks(u: Micros, tick: Micros) -> Ticks
     requires { ⌜ (0 < tick .0) × (u .0 ≤ 1000000 * tick .0) ⌝ }
     ensures { λ r. ⌜ r ≡ inTicks (tick .0) u ⌝ }
@@ -77,6 +88,9 @@ pub(crate) fn server_row(rows: usize, tick: Micros, s: ServerLine) -> Server
     let d1 = in_ticks(c.d1, tick);
     let d2 = in_ticks(c.d2, tick);
     let period = in_ticks(s.period, tick);
+    let last = s.phase;
+    let said = phase_said(last);
+    let phase = in_ticks(said, tick);
     let capacity = ByMode { n, d1, d2 };
     Server {
         partition: s.partition as u8,
@@ -84,5 +98,6 @@ pub(crate) fn server_row(rows: usize, tick: Micros, s: ServerLine) -> Server
         priority: s.priority as u8,
         period,
         capacity,
+        phase,
     }
 }

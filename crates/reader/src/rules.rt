@@ -19,13 +19,25 @@ use text::Word;
 use units::Micros;
 ghost use mathlib.Core.Path.{_≡_};
 ghost use mathlib.Core.Bool.{true};
-ghost use Prim.Native.Nat.{_≤_, _<_};
+ghost use Prim.Native.Nat.{_+_, _≤_, _<_};
+ghost use lib.Dec.{leb};
 ghost use Rattle.laws.specs.Search.{firstFailed};
 ghost use Rattle.table.specs.Rules.{tickKeeps};
 ghost use Rattle.text.specs.Line.{wordOf};
 ghost use Rattle.text.specs.Standing.{serverBounds, serverWhole, taskBounds};
 ghost use Rattle.reader.specs.Inner.{placedBy, tickStanding, serverStanding, taskStanding};
 ghost use Rattle.reader.specs.Inner.{namedRows, standingBy};
+
+// Whether a tick of the period is left after the phase: "a phase above the period less one tick, in
+// microseconds, is 2".
+fn leaves_a_tick(phase: Micros, tick: Micros, period: Micros) -> bool
+    ensures { λ r. ⌜ r ≡ leb (phase .0 + tick .0) (period .0) ⌝ }
+{
+    if period.0 < phase.0 {
+        return false;
+    }
+    tick.0 <= period.0 - phase.0
+}
 
 fn server_bounds(rows: usize, tick: Micros, s: ServerLine) -> Found
     requires { ⌜ tick .0 ≤ 10000 ⌝ }
@@ -36,6 +48,9 @@ fn server_bounds(rows: usize, tick: Micros, s: ServerLine) -> Found
     let period = s.period.0;
     let lasts = laws::is_within(tick.0, 1000000 * tick.0, period);
     let c = s.capacity;
+    let last = s.phase;
+    let said = rows::phase_said(last);
+    let starts = leaves_a_tick(said, tick, s.period);
     laws::first_failed(
         &[
             rows < SERVERS,
@@ -46,6 +61,7 @@ fn server_bounds(rows: usize, tick: Micros, s: ServerLine) -> Found
             c.n.0 <= period,
             c.d1.0 <= period,
             c.d2.0 <= period,
+            starts,
         ],
     )
 }
@@ -56,6 +72,8 @@ fn server_whole(tick: Micros, s: ServerLine) -> Found
 {
     let period = s.period.0;
     let c = s.capacity;
+    let last = s.phase;
+    let phase = rows::phase_said(last).0;
     laws::first_failed(
         &[
             true,
@@ -66,6 +84,7 @@ fn server_whole(tick: Micros, s: ServerLine) -> Found
             c.n.0 % tick.0 == 0,
             c.d1.0 % tick.0 == 0,
             c.d2.0 % tick.0 == 0,
+            phase % tick.0 == 0,
         ],
     )
 }

@@ -27,7 +27,7 @@ use Rattle.events.specs.declared.Event.{Event}
 use Rattle.events.specs.declared.Event.the-variants.{Release, Tick}
 use Rattle.events.specs.declared.Answer.{Answer}
 use Rattle.events.specs.declared.Answer.the-variants.{Released, Ticked, No}
-use Rattle.run.specs.State.{usedAt, elapsedAt, waitingAt, runsAt, waits, someWaits, withMode, withBudgets, withQueues}
+use Rattle.run.specs.State.{usedAt, elapsedAt, waitingAt, runsAt, inForce, waits, someWaits, withMode, withBudgets, withQueues}
 use Rattle.run.specs.State.{withLast, withCounts, fresh}
 use Rattle.run.specs.Sound.{soundServer, soundTask, soundLast, soundCounts, soundState, sound}
 use Rattle.events.specs.Answers.{noOf}
@@ -35,7 +35,7 @@ use Rattle.run.specs.Release.{freshRun, releaseOf}
 use Rattle.run.specs.Tick.{raises, judge, step1, drops, discards, step2, step3, step4, settle, able, highestAble, highestTask}
 use Rattle.run.specs.Tick.{choose, advance, tickTaken, tickOf}
 use Rattle.run.specs.Events.{eventOf, after, answers}
-use Rattle.table.specs.Example.{byMode, server, task, rows, example}
+use Rattle.table.specs.Example.{byMode, server, lateServer, task, rows, example}
 
 -- an event handed in with a state of the example: its number
 abbrev noIn : State → Event → ℕ
@@ -88,12 +88,21 @@ levels =
     (server 0 Timed 10 9 (byMode 9 9 9) ∷ [])
     (task 0 0 30 HI (byMode 1 2 3) ∷ task 0 0 20 MI (byMode 1 1 2) ∷ task 0 0 10 LO (byMode 1 2 2) ∷ []))
 
+-- The same two servers, both of period 4, row 0 with capacity 1 and row 1 with 2; row 1, the higher,
+-- starts with tick 2. The one task belongs to row 1.
+unfoldable pub late : Table
+late =
+    tableOf
+    (rows
+    (server 0 Timed 10 4 (byMode 1 1 1) ∷ lateServer 2 0 Timed 20 4 (byMode 2 2 2) ∷ [])
+    (task 1 1 10 LO (byMode 1 1 1) ∷ []))
+
 unfoldable computed : Unit {0}
 unfolding
     every least allBelow anyBelow sumBelow highest anew tableOf tableKeeps keeps serverKeeps taskKeeps
-    taskFault taskStands differ waits someWaits soundServer soundTask soundLast soundCounts soundState sound
+    taskFault taskStands differ inForce waits someWaits soundServer soundTask soundLast soundCounts soundState sound
     releaseOf judge step1 drops discards step2 step3 step4 settle able highestAble highestTask choose advance
-    tickTaken tickOf afterIn answersIn example turns crossed tight levels
+    tickTaken tickOf afterIn answersIn example turns crossed tight levels late
 computed = tt
 
 -- What one tick does.
@@ -115,6 +124,24 @@ pub without-jobs : turns (answers (freshRun crossed) (replicate 5 (Tick false)))
     Empty 1 ∷ Empty 1 ∷ Empty 0 ∷ Idle ∷ Empty 1 ∷ []
 unfolding computed
 without-jobs = refl
+
+-- 02, No. 7. "Until that tick the server has no budget and is not able; from it on, periods count
+-- from it.": row 1 is charged in ticks 2 and 3 and again, after 4 ticks, in 6 and 7; row 0 in tick 0,
+-- and in tick 4, with which its own second period begins
+pub late-turns : turns (answers (freshRun late) (replicate 9 (Tick false))) ≡
+    Empty 0 ∷ Idle ∷ Empty 1 ∷ Empty 1 ∷ Empty 0 ∷ Idle ∷ Empty 1 ∷ Empty 1 ∷ Empty 0 ∷ []
+unfolding computed
+late-turns = refl
+
+-- a job that waits for it is not run before; nothing is elapsed for it before, and one tick after
+pub late-job : turns (answers (freshRun late) (Release 0 ∷ replicate 3 (Tick false))) ≡ Empty 0 ∷ Idle ∷ Ran 1 0 ∷ []
+unfolding computed
+late-job = refl
+
+pub late-elapsed : map (λ n. elapsedAt (after (freshRun late) (replicate n (Tick false)) .state) 1) (0 ∷ 2 ∷ 3 ∷ 6 ∷ 7 ∷ []) ≡
+    0 ∷ 0 ∷ 1 ∷ 4 ∷ 1 ∷ []
+unfolding computed
+late-elapsed = refl
 
 -- Step 1, "Mark 1: that job leaves, finished."
 pub finished-by-mark : told (Release 0 ∷ Tick false ∷ Tick true ∷ []) ≡
@@ -301,6 +328,19 @@ pub no-13-beside : map (λ s. noIn s (Tick false))
     ∷ []) ≡ replicate 7 0
 unfolding computed
 no-13-beside = refl
+
+-- 02, No. 7: "a server before its phase has used 0 and elapsed 0", row 1 of `late`, whose phase is 2:
+-- elapsed 1 after 1 tick; used 1 and elapsed 1; and beside them elapsed 0, and, at the phase, elapsed 1
+pub no-13-late :
+    map
+    (λ s. noOf (eventOf (record { table = late; state = s }) (Tick false) .answer))
+    (withCounts (spent 1 0 1) (record { 0 = 1 }) 0
+    ∷ withCounts (spent 1 1 1) (record { 0 = 1 }) 0
+    ∷ withCounts (spent 1 0 0) (record { 0 = 1 }) 0
+    ∷ withCounts (spent 1 1 1) (record { 0 = 2 }) 0
+    ∷ []) ≡ 13 ∷ 13 ∷ 0 ∷ 0 ∷ []
+unfolding computed
+no-13-late = refl
 
 -- "state as it was": a job of task 1 waits, and then come a release and a tick that are refused.
 -- Who waits after that:

@@ -3,16 +3,16 @@
 -- Assumes nothing.
 use mathlib.Core.Path.{_≡_, refl, ap, _∙_}
 use mathlib.Core.Bool.{Bool, true, false, not, _&&_}
-use mathlib.Core.List.{List, [], _∷_}
+use mathlib.Core.List.{List, []}
 use mathlib.Core.Logic.{_⊎_, inl, inr}
 use Prim.Native.Nat.{ℕ, _+_, _≤_, _<_}
 use native.Mathlib.Omega.{arith}
 use lib.Dec.{eqb}
 use lib.ListN.{length, getD-replicate}
-use borrow.Author.Tests.{eqb-false, ltb-true, eq-eqb}
+use borrow.Author.Tests.{eqb-false, ltb-true}
 use Rattle.laws.specs.Choice.{if_then_else_, larger}
-use Rattle.laws.proofs.Choice.{clash, le-or-lt, larger-left, larger-right}
-use Rattle.laws.proofs.Rows.{sum-le, sum-add, sum-cong, sum-zero}
+use Rattle.laws.proofs.Choice.{clash, larger-left, larger-right}
+use Rattle.laws.proofs.Rows.{sum-le, sum-zero}
 use Rattle.units.specs.declared.Ticks.{Ticks}
 use Rattle.table.specs.declared.ByMode.{ByMode}
 use Rattle.table.specs.declared.Mode.{Mode}
@@ -22,8 +22,6 @@ use Rattle.table.specs.Rows.{serverAt, taskAt, periodAt, limitAt, inMode, isLow
 use Rattle.table.specs.Inner.{Sized}
 use Rattle.table.specs.Rules.{tableKeeps}
 use Rattle.table.proofs.Rules.{TableRules, table-rules}
-use Rattle.queues.specs.declared.Last.{Last}
-use Rattle.queues.specs.declared.Last.the-variants.{NoJob, Job}
 use Rattle.run.specs.declared.State.{State}
 use Rattle.run.specs.declared.Run.{Run}
 use Rattle.events.specs.declared.Event.{Event}
@@ -46,6 +44,7 @@ use Rattle.run.specs.Events.{eventOf, theBox, after}
 use Rattle.run.proofs.Taken.{ReleaseTaken, releaseTaken, tickedTaken, release-ind, tick-ind}
 use Rattle.run.proofs.Shape.{Shaped, RunShaped, event-run-shaped, settle-counts, fresh-run-shaped}
 use Rattle.run.proofs.Tick.{used-settled, elapsed-settled, used-after, elapsed-after, charged-able, able-room}
+use Rattle.run.proofs.Tick.{force-low, charged-passes, passes-most, passes-late, late-before, started-settled}
 use Rattle.run.proofs.Tick.{ran-front}
 use Rattle.run.proofs.Sound.{ServerSound, TaskSound, LastSound, CountsSound, StateSound, sound-table, sound-state}
 use Rattle.run.proofs.Sound.{sound-build, task-queue}
@@ -77,7 +76,7 @@ fresh-server : (t : Table) → TableRules t → (i : ℕ) → i < t .nservers �
 fresh-server t rules i l =
     let u : usedAt fresh i ≡ 0 = getD-replicate {A = ℕ} 32 i 0 0 (omega (arith, rules .servers-high)) in
     let e : elapsedAt fresh i ≡ 0 = u in
-    record { elapsed = omega arith; used = omega arith; room = omega arith }
+    record { elapsed = omega arith; used = omega arith; room = omega arith; before = λ q. (u, e) }
 
 pub fresh-sound : (t : Table) → TableRules t → StateSound t fresh
 fresh-sound t rules =
@@ -149,6 +148,7 @@ module _ (t : Table) (s : State) (k : ℕ) (rules : TableRules t) (h : Shaped s)
               elapsed = f .servers i l .elapsed;
               used = f .servers i l .used;
               room = f .servers i l .room;
+              before = f .servers i l .before;
             };
         tasks = job-task;
         last = joined-last (t .ntasks) (queuesOf s) k (s .ticks .0) long (s .last) (f .last);
@@ -158,13 +158,14 @@ module _ (t : Table) (s : State) (k : ℕ) (rules : TableRules t) (h : Shaped s)
 -- A tick: the servers by T1 and T2, the tasks by what steps 1 to 3 leave and by whose job runs.
 refilled : (u e p : ℕ) → u ≤ e → e ≤ p → 1 ≤ p →
     ((if eqb e p then 0 else u) ≤ (if eqb e p then 0 else e)) × ((if eqb e p then 0 else e) + 1 ≤ p) ×
-    ((if eqb e p then 0 else u) ≤ u)
+    ((if eqb e p then 0 else u) ≤ u) × ((if eqb e p then 0 else e) ≤ e)
 refilled u e p h g o = go (eqb e p) refl
   where
     go : (b : Bool) → eqb e p ≡ b →
-        ((if b then 0 else u) ≤ (if b then 0 else e)) × ((if b then 0 else e) + 1 ≤ p) × ((if b then 0 else u) ≤ u)
-    go true q = (omega arith, omega arith, omega arith)
-    go false q = (omega arith, omega (arith, eqb-false e p q), omega arith)
+        ((if b then 0 else u) ≤ (if b then 0 else e)) × ((if b then 0 else e) + 1 ≤ p) × ((if b then 0 else u) ≤ u) ×
+        ((if b then 0 else e) ≤ e)
+    go true q = (omega arith, omega arith, omega arith, omega arith)
+    go false q = (omega arith, omega (arith, eqb-false e p q), omega arith, omega arith)
 
 module _ (t : Table) (s : State) (mark : Bool) (rules : TableRules t) (h : Shaped s) (f : StateSound t s)
     (count : s .ticks .0 < 4000000000) where
@@ -178,14 +179,25 @@ module _ (t : Table) (s : State) (mark : Bool) (rules : TableRules t) (h : Shape
       let ua = used-after t s mark i l (rules .servers-high) h in
       let ea = elapsed-after t s mark i l (rules .servers-high) h in
       record {
-        elapsed = omega (arith, r .1);
-        used = elim (charged-is (choose t z) i) [ inl c ↦ omega (arith, r .0) | inr c ↦ omega (arith, r .0) ];
+        elapsed = omega (arith, r .1, passes-most t z i);
+        used = omega (arith, r .0, charged-passes t z i);
         room =
             elim (charged-is (choose t z) i) [
               | inl c ↦ omega (arith, r .2, p .room)
               | inr c ↦
-                  omega (arith, able-room t z i (charged-able t z i c .1), in-largest (serverAt t i .capacity) (z .mode))
+                  omega (
+                    arith,
+                    able-room t z i (charged-able t z i c .1),
+                    force-low t z i,
+                    in-largest (serverAt t i .capacity) (z .mode),
+                  )
             ];
+        before =
+            λ q.
+            let b = late-before t s mark i q in
+            let none = passes-late t z i (started-settled t s mark i ∙ b) in
+            let n = p .before b in
+            (omega (arith, r .2, charged-passes t z i), omega (arith, r .3));
       }
 
   -- a job that runs waits

@@ -7,23 +7,22 @@ use mathlib.Core.List.{[], _∷_}
 use mathlib.Core.Logic.{_⊎_, inl, inr, _↔_}
 use Prim.Native.Nat.{ℕ, _≤_, _<_}
 use native.Mathlib.Omega.{arith}
-use lib.Dec.{leb, ltb, eqb}
-use borrow.Author.Tests.{ltb-true, ltb-false, leb-true, eqb-true, lt-ltb, le-ltb, le-leb, eq-eqb, not-true}
+use lib.Dec.{eqb}
+use borrow.Author.Tests.{ltb-false, leb-true, eqb-true, le-ltb, le-leb, eq-eqb, not-true}
 use Rattle.laws.specs.Choice.{every}
-use Rattle.laws.specs.Rows.{allBelow, sumBelow}
-use Rattle.laws.proofs.Choice.{clash, true-or-false, and-true, and-left, and-right, or-cases, or-true-left, or-true-right}
+use Rattle.laws.specs.Rows.{allBelow}
+use Rattle.laws.proofs.Choice.{clash, true-or-false, and-true, and-left, and-right}
 use Rattle.laws.proofs.Choice.{every-at}
 use Rattle.laws.proofs.Rows.{all-at, all-build}
 use Rattle.table.specs.declared.Table.{Table}
 use Rattle.table.specs.Rows.{serverAt, taskAt, periodAt, limitAt, isLow, largest, isD2}
 use Rattle.table.specs.Rules.{tableKeeps}
 use Rattle.queues.specs.declared.Last.{Last}
-use Rattle.queues.specs.declared.Last.the-variants.{NoJob, Job}
 use Rattle.run.specs.declared.State.{State}
 use Rattle.run.specs.declared.Run.{Run}
 use Rattle.queues.proofs.Sound.{QueueSound, LastSound as LastSoundIn, JobSound as JobSoundIn, CountsSound as CountsSoundIn}
 use Rattle.queues.proofs.Sound.{queue-facts, queue-tests, last-facts, last-tests, counts-facts, counts-tests}
-use Rattle.run.specs.State.{queuesOf, usedAt, elapsedAt, waitingAt, runsAt, taskWaits}
+use Rattle.run.specs.State.{queuesOf, usedAt, elapsedAt, started, waitingAt, runsAt, taskWaits}
 use Rattle.queues.specs.Queues.{isLast}
 use Rattle.run.specs.Sound.{soundServer, soundTask, soundLast, soundCounts, soundState, sound}
 
@@ -32,6 +31,7 @@ pub record ServerSound (t : Table) (s : State) (i : ℕ) : Type 0 where
   pub elapsed : elapsedAt s i ≤ periodAt t i
   pub used : usedAt s i ≤ elapsedAt s i
   pub room : usedAt s i ≤ largest (serverAt t i .capacity) .0
+  pub before : started t s i ≡ false → (usedAt s i ≡ 0) × (elapsedAt s i ≡ 0)
 
 -- a task's row: its queue, and that no LO job waits in D2
 pub record TaskSound (t : Table) (s : State) (k : ℕ) : Type 0 where
@@ -58,6 +58,13 @@ pub record StateSound (t : Table) (s : State) : Type 0 where
   pub counts : CountsSound t s
 
 -- From the tests to the facts.
+before-facts : (b : Bool) (u e : ℕ) → (b || eqb u 0 && eqb e 0) ≡ true → b ≡ false → (u ≡ 0) × (e ≡ 0)
+before-facts true u e h q = absurd (clash true refl q)
+before-facts false u e h q = (
+  eqb-true u 0 (and-left (eqb u 0) (eqb e 0) h),
+  eqb-true e 0 (and-right (eqb u 0) (eqb e 0) h),
+)
+
 server-facts : (t : Table) (s : State) (i : ℕ) → every (soundServer t s i) ≡ true → ServerSound t s i
 unfolding soundServer
 server-facts t s i e =
@@ -66,6 +73,7 @@ server-facts t s i e =
       elapsed = leb-true (elapsedAt s i) (periodAt t i) (at 0);
       used = leb-true (usedAt s i) (elapsedAt s i) (at 1);
       room = leb-true (usedAt s i) (largest (serverAt t i .capacity) .0) (at 2);
+      before = before-facts (started t s i) (usedAt s i) (elapsedAt s i) (at 3);
     }
 
 low-none : (d l w : Bool) → not (d && (l && w)) ≡ true → d ≡ true → l ≡ true → w ≡ false
@@ -105,6 +113,12 @@ state-facts t s e =
     }
 
 -- From the facts to the tests.
+before-tests : (b : Bool) (u e : ℕ) → (b ≡ false → (u ≡ 0) × (e ≡ 0)) → (b || eqb u 0 && eqb e 0) ≡ true
+before-tests true u e f = refl
+before-tests false u e f =
+    let z = f refl in
+    and-true (eqb u 0) (eqb e 0) (eq-eqb u 0 (z .0)) (eq-eqb e 0 (z .1))
+
 server-tests : (t : Table) (s : State) (i : ℕ) → ServerSound t s i → every (soundServer t s i) ≡ true
 unfolding soundServer every
 server-tests t s i f =
@@ -112,6 +126,7 @@ server-tests t s i f =
       le-leb (elapsedAt s i) (periodAt t i) (f .elapsed),
       le-leb (usedAt s i) (elapsedAt s i) (f .used),
       le-leb (usedAt s i) (largest (serverAt t i .capacity) .0) (f .room),
+      before-tests (started t s i) (usedAt s i) (elapsedAt s i) (f .before),
     )
 
 low-test : (d l w : Bool) → (d ≡ true → l ≡ true → w ≡ false) → not (d && (l && w)) ≡ true

@@ -6,12 +6,12 @@ use mathlib.Core.Bool.{Bool, true, false, _||_}
 use mathlib.Core.Logic.{_⊎_, inl, inr, _↔_}
 use Prim.Native.Nat.{ℕ, _+_, _≤_, _<_}
 use native.Mathlib.Omega.{arith}
-use lib.Dec.{ltb, eqb}
-use borrow.Author.Tests.{ltb-true, lt-ltb, eqb-true, eq-eqb}
+use lib.Dec.{leb, ltb, eqb}
+use borrow.Author.Tests.{leb-false, lt-leb, ltb-true, lt-ltb, eqb-true}
 use Rattle.laws.specs.declared.Found.{Found}
 use Rattle.laws.specs.declared.Found.the-variants.{At, Nothing}
 use Rattle.laws.specs.Choice.{if_then_else_}
-use Rattle.laws.proofs.Choice.{clash, if-ind, and-left, and-right, and-true, or-true-left, or-true-right, or-cases, le-or-lt}
+use Rattle.laws.proofs.Choice.{clash, and-left, and-right, and-true, or-true-left, or-true-right, or-cases, le-or-lt, true-or-false}
 use Rattle.laws.proofs.Rows.{any-found, any-at}
 use Rattle.laws.proofs.Anew.{anew-at}
 use Rattle.laws.proofs.Highest.{highest-at, highest-none}
@@ -20,14 +20,14 @@ use Rattle.table.specs.declared.Mode.{Mode}
 use Rattle.table.specs.declared.Mode.the-variants.{N, D1, D2}
 use Rattle.table.specs.declared.Task.{Task}
 use Rattle.table.specs.declared.Table.{Table}
-use Rattle.table.specs.Rows.{serverAt, taskAt, periodAt, priorityAt, capacityAt, taskPriorityAt, isTimed}
+use Rattle.table.specs.Rows.{serverAt, taskAt, periodAt, priorityAt, phaseAt, capacityAt, taskPriorityAt, isTimed}
 use Rattle.queues.specs.declared.Last.the-variants.{Job}
 use Rattle.run.specs.declared.State.{State}
 use Rattle.events.specs.declared.Turn.{Turn}
 use Rattle.events.specs.declared.Turn.the-variants.{Run as Ran, Empty, Idle}
-use Rattle.run.specs.State.{usedAt, elapsedAt, owner, taskWaits, waitsFor, waits}
+use Rattle.run.specs.State.{usedAt, elapsedAt, started, inForce, passes, owner, taskWaits, waitsFor, waits}
 use Rattle.events.specs.Answers.{one, charged, ran}
-use Rattle.events.proofs.Answers.{one-same, one-eq}
+use Rattle.events.proofs.Answers.{one-same, one-eq, charged-is}
 use Rattle.run.specs.Release.{withJob}
 use Rattle.queues.specs.Queues.{lastOf}
 use Rattle.queues.specs.Queues.{turnOf}
@@ -67,7 +67,8 @@ used-after t s mark i l few h =
     anew-at (t .nservers) _ (settle t s mark .state .used) i 0 l (omega (arith, settle-shaped t s mark h .used))
 
 pub elapsed-after : (t : Table) (s : State) (mark : Bool) (i : ℕ) → i < t .nservers → t .nservers ≤ 32 → Shaped s →
-    elapsedAt (tickTaken t s mark .state) i ≡ elapsedAt (settle t s mark .state) i + 1
+    elapsedAt (tickTaken t s mark .state) i ≡
+    elapsedAt (settle t s mark .state) i + passes t (settle t s mark .state) i
 unfolding tickTaken advance
 elapsed-after t s mark i l few h =
     anew-at (t .nservers) _ (settle t s mark .state .elapsed) i 0 l (omega (arith, settle-shaped t s mark h .elapsed))
@@ -80,6 +81,20 @@ mode-after t s mark = refl
 pub ticks-after : (t : Table) (s : State) (mark : Bool) → tickTaken t s mark .state .ticks .0 ≡ s .ticks .0 + 1
 unfolding tickTaken advance
 ticks-after t s mark = ap (λ (n : Ticks). n .0 + 1) (settle-counts t s mark .0)
+
+-- so a server that has not started after a tick had not before it
+pub late-before : (t : Table) (s : State) (mark : Bool) (i : ℕ) → started t (tickTaken t s mark .state) i ≡ false →
+    started t s i ≡ false
+late-before t s mark i e =
+    lt-leb
+    (phaseAt t i)
+    (s .ticks .0)
+    (omega (arith, leb-false (phaseAt t i) (tickTaken t s mark .state .ticks .0) e, ticks-after t s mark))
+
+-- and step 5 finds it as it was
+pub started-settled : (t : Table) (s : State) (mark : Bool) (i : ℕ) →
+    started t (settle t s mark .state) i ≡ started t s i
+started-settled t s mark i = ap (λ (n : Ticks). leb (phaseAt t i) (n .0)) (settle-counts t s mark .0)
 
 pub accepted-after : (t : Table) (s : State) (mark : Bool) → tickTaken t s mark .state .accepted ≡ s .accepted
 unfolding tickTaken advance
@@ -172,35 +187,78 @@ able-charged t z i l a d = go (highestAble t z) refl
 
 -- T4
 pub timed-able : (t : Table) (z : State) (i : ℕ) → isTimed (serverAt t i .kind) ≡ true →
-    usedAt z i < capacityAt t (z .mode) i → able t z i ≡ true
+    usedAt z i < inForce t z i → able t z i ≡ true
 unfolding able
 timed-able t z i k u =
     and-true
-    (ltb (usedAt z i) (capacityAt t (z .mode) i))
+    (ltb (usedAt z i) (inForce t z i))
     (isTimed (serverAt t i .kind) || waits t z i)
-    (lt-ltb (usedAt z i) (capacityAt t (z .mode) i) u)
+    (lt-ltb (usedAt z i) (inForce t z i) u)
     (or-true-left (isTimed (serverAt t i .kind)) (waits t z i) k)
 
-pub waiting-able : (t : Table) (z : State) (i : ℕ) → waits t z i ≡ true → usedAt z i < capacityAt t (z .mode) i →
+pub waiting-able : (t : Table) (z : State) (i : ℕ) → waits t z i ≡ true → usedAt z i < inForce t z i →
     able t z i ≡ true
 unfolding able
 waiting-able t z i w u =
     and-true
-    (ltb (usedAt z i) (capacityAt t (z .mode) i))
+    (ltb (usedAt z i) (inForce t z i))
     (isTimed (serverAt t i .kind) || waits t z i)
-    (lt-ltb (usedAt z i) (capacityAt t (z .mode) i) u)
+    (lt-ltb (usedAt z i) (inForce t z i) u)
     (or-true-right (isTimed (serverAt t i .kind)) (waits t z i) w)
 
-pub able-room : (t : Table) (z : State) (i : ℕ) → able t z i ≡ true → usedAt z i < capacityAt t (z .mode) i
+pub able-room : (t : Table) (z : State) (i : ℕ) → able t z i ≡ true → usedAt z i < inForce t z i
 unfolding able
 able-room t z i a =
     ltb-true
     (usedAt z i)
-    (capacityAt t (z .mode) i)
+    (inForce t z i)
     (and-left
-    (ltb (usedAt z i) (capacityAt t (z .mode) i))
+    (ltb (usedAt z i) (inForce t z i))
     (isTimed (serverAt t i .kind) || waits t z i)
     a)
+
+-- 02, No. 7. A server that has started has the capacity of its mode and a tick of its period passes;
+-- one that has not has neither.
+pub force-started : (t : Table) (z : State) (i : ℕ) → started t z i ≡ true → inForce t z i ≡ capacityAt t (z .mode) i
+unfolding inForce
+force-started t z i e = rw e
+
+pub force-late : (t : Table) (z : State) (i : ℕ) → started t z i ≡ false → inForce t z i ≡ 0
+unfolding inForce
+force-late t z i e = rw e
+
+pub force-low : (t : Table) (z : State) (i : ℕ) → inForce t z i ≤ capacityAt t (z .mode) i
+force-low t z i =
+    elim (true-or-false (started t z i)) [
+      | inl e ↦ omega (arith, force-started t z i e)
+      | inr e ↦ omega (arith, force-late t z i e)
+    ]
+
+-- so an able server has started
+pub able-started : (t : Table) (z : State) (i : ℕ) → able t z i ≡ true → started t z i ≡ true
+able-started t z i a =
+    elim (true-or-false (started t z i)) [
+      | inl e ↦ e
+      | inr e ↦ absurd (omega (arith, able-room t z i a, force-late t z i e))
+    ]
+
+-- and of a period passes at least what is charged in it, and at most a tick
+pub charged-passes : (t : Table) (z : State) (i : ℕ) → charged (choose t z) i ≤ passes t z i
+charged-passes t z i =
+    elim (charged-is (choose t z) i) [
+      | inl c ↦ omega arith
+      | inr c ↦ rw (c, able-started t z i (charged-able t z i c .1)) (omega arith)
+    ]
+
+pub passes-most : (t : Table) (z : State) (i : ℕ) → passes t z i ≤ 1
+passes-most t z i = go (started t z i)
+  where
+    go : (b : Bool) → (if b then 1 else 0) ≤ 1
+    go true = omega arith
+    go false = omega arith
+
+pub passes-late : (t : Table) (z : State) (i : ℕ) → started t z i ≡ false → passes t z i ≡ 0
+passes-late t z i e = rw e
 
 pub able-cause : (t : Table) (z : State) (i : ℕ) → able t z i ≡ true →
     (isTimed (serverAt t i .kind) ≡ true) ⊎ (waits t z i ≡ true)
@@ -210,7 +268,7 @@ able-cause t z i a =
     (isTimed (serverAt t i .kind))
     (waits t z i)
     (and-right
-    (ltb (usedAt z i) (capacityAt t (z .mode) i))
+    (ltb (usedAt z i) (inForce t z i))
     (isTimed (serverAt t i .kind) || waits t z i)
     a)
 

@@ -1,8 +1,8 @@
 -- 01, Numbers for no: "A state is sound (else 13) if ..", clause by clause.
-use mathlib.Core.Bool.{Bool, not, _&&_}
+use mathlib.Core.Bool.{Bool, not, _&&_, _||_}
 use mathlib.Core.List.{List, [], _∷_}
 use Prim.Native.Nat.{ℕ}
-use lib.Dec.{leb}
+use lib.Dec.{leb, eqb}
 use Rattle.laws.specs.Choice.{every}
 use Rattle.laws.specs.Rows.{allBelow}
 use Rattle.table.specs.declared.Table.{Table}
@@ -13,15 +13,16 @@ use Rattle.queues.specs.Queues.{isLast}
 use Rattle.queues.specs.Sound.{queueSound, lastSound, countsSound}
 use Rattle.run.specs.declared.State.{State}
 use Rattle.run.specs.declared.Run.{Run}
-use Rattle.run.specs.State.{queuesOf, usedAt, elapsedAt, waitingAt, runsAt, taskWaits}
+use Rattle.run.specs.State.{queuesOf, usedAt, elapsedAt, started, waitingAt, runsAt, taskWaits}
 
 -- "each server's elapsed count is at most its period, and its used count at most elapsed and at
--- most its largest capacity"
+-- most its largest capacity". 02, No. 7: "a server before its phase has used 0 and elapsed 0".
 unfoldable pub soundServer : Table → State → ℕ → List Bool
 soundServer t s i =
     leb (elapsedAt s i) (periodAt t i)
     ∷ leb (usedAt s i) (elapsedAt s i)
     ∷ leb (usedAt s i) (largest (serverAt t i .capacity) .0)
+    ∷ (started t s i || eqb (usedAt s i) 0 && eqb (elapsedAt s i) 0)
     ∷ []
 
 -- "each task has at most 16 waiting; the front job's run count is 0 if none waits and else below the

@@ -2,15 +2,16 @@
 use mathlib.Core.Bool.{Bool, _&&_}
 use mathlib.Core.List.{List}
 use Prim.Native.Nat.{ℕ}
-use lib.Dec.{eqb}
+use lib.Dec.{leb, eqb}
 use lib.ListN.{getD, replicate}
+use Rattle.laws.specs.Choice.{if_then_else_}
 use Rattle.laws.specs.Rows.{anyBelow}
 use Rattle.units.specs.declared.Ticks.{Ticks}
 use Rattle.table.specs.declared.Mode.{Mode}
 use Rattle.table.specs.declared.Mode.the-variants.{N, D1, D2}
 use Rattle.table.specs.declared.Task.{Task}
 use Rattle.table.specs.declared.Table.{Table}
-use Rattle.table.specs.Rows.{taskAt}
+use Rattle.table.specs.Rows.{taskAt, phaseAt, capacityAt}
 use Rattle.queues.specs.declared.Last.{Last}
 use Rattle.queues.specs.declared.Last.the-variants.{NoJob}
 use Rattle.queues.specs.Queues.{Queues, waitingIn, runsIn, waitsIn, noJobs}
@@ -21,6 +22,19 @@ usedAt s i = getD (s .used) i 0
 
 abbrev pub elapsedAt : State → ℕ → ℕ
 elapsedAt s i = getD (s .elapsed) i 0
+
+-- 02, No. 7: "Until that tick the server has no budget and is not able; from it on, periods count
+-- from it." The tick of a state is the next one, whose number is that of the ticks taken.
+abbrev pub started : Table → State → ℕ → Bool
+started t s i = leb (phaseAt t i) (s .ticks .0)
+
+-- the capacity in force: that of the present mode, and none until the server has started
+unfoldable pub inForce : Table → State → ℕ → ℕ
+inForce t s i = if started t s i then capacityAt t (s .mode) i else 0
+
+-- how much of its period passes for server i in a tick
+abbrev pub passes : Table → State → ℕ → ℕ
+passes t s i = if started t s i then 1 else 0
 
 -- the tasks' queues
 abbrev pub queuesOf : State → Queues

@@ -14,7 +14,7 @@ use Rattle.table.specs.declared.Mode.the-variants.{N, D1, D2}
 use Rattle.table.specs.declared.Task.{Task}
 use Rattle.table.specs.declared.Table.{Table}
 use Rattle.table.specs.declared.Refusal.the-variants.{NoJobRan, CountSpent, Unsound}
-use Rattle.table.specs.Rows.{serverAt, taskAt, inMode, periodAt, priorityAt, capacityAt, taskPriorityAt, isTimed, isLow, isD2}
+use Rattle.table.specs.Rows.{serverAt, taskAt, inMode, periodAt, priorityAt, taskPriorityAt, isTimed, isLow, isD2}
 use Rattle.queues.specs.declared.Last.{Last}
 use Rattle.queues.specs.declared.Last.the-variants.{NoJob, Job}
 use Rattle.queues.specs.Queues.{frontGone, highestWaiting, turnOf, frontRan, lastOf, ranJob}
@@ -28,8 +28,8 @@ use Rattle.events.specs.declared.Left.the-variants.{Nobody, Done, Cut}
 use Rattle.events.specs.declared.TickAnswer.{TickAnswer}
 use Rattle.events.specs.declared.Answer.the-variants.{Ticked}
 use Rattle.run.specs.declared.Answered.{Answered}
-use Rattle.run.specs.State.{queuesOf, usedAt, elapsedAt, waitingAt, runsAt, owner, waits, someWaits, withMode, withBudgets}
-use Rattle.run.specs.State.{withQueues, withLast, withCounts}
+use Rattle.run.specs.State.{queuesOf, usedAt, elapsedAt, waitingAt, runsAt, inForce, passes, owner, waits, someWaits, withMode}
+use Rattle.run.specs.State.{withBudgets, withQueues, withLast, withCounts}
 use Rattle.run.specs.Sound.{sound}
 use Rattle.events.specs.Answers.{charged}
 use Rattle.run.specs.Release.{refused}
@@ -150,9 +150,9 @@ settle t s mark =
     }
 
 -- Step 5. "Able servers: used below capacity in the present mode, and timed, or with a waiting job.
--- The highest is charged"
+-- The highest is charged". 02, No. 7: "Until that tick the server has no budget and is not able".
 unfoldable pub able : Table → State → ℕ → Bool
-able t s i = ltb (usedAt s i) (capacityAt t (s .mode) i) && (isTimed (serverAt t i .kind) || waits t s i)
+able t s i = ltb (usedAt s i) (inForce t s i) && (isTimed (serverAt t i .kind) || waits t s i)
 
 unfoldable pub highestAble : Table → State → Found
 highestAble t s = highest (t .nservers) (able t s) (priorityAt t)
@@ -180,11 +180,12 @@ step5 t s turn = withBudgets s (anew (t .nservers) (λ i u. u + charged turn i) 
 abbrev pub step6 : Table → State → Turn → State
 step6 t s turn = withLast (withQueues s (frontRan (t .ntasks) (queuesOf s) turn)) (lastOf turn)
 
--- Step 7. "All elapsed counts and the tick number rise by 1."
+-- Step 7. "All elapsed counts and the tick number rise by 1." 02, No. 7: "from it on, periods count
+-- from it", so until a server has started its elapsed count stays.
 abbrev pub step7 : Table → State → State
 step7 t s =
     withCounts
-    (withBudgets s (s .used) (anew (t .nservers) (λ i e. e + 1) (s .elapsed)))
+    (withBudgets s (s .used) (anew (t .nservers) (λ i e. e + passes t s i) (s .elapsed)))
     (record { 0 = s .ticks .0 + 1 })
     (s .accepted)
 

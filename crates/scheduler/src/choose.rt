@@ -9,6 +9,7 @@ use crate::sheets::CAPACITY_N;
 use crate::sheets::DEGRADED;
 use crate::sheets::HOME;
 use crate::sheets::KIND;
+use crate::sheets::PHASE;
 use crate::sheets::SERVER_CELLS;
 use crate::sheets::SERVER_PRIORITY;
 use crate::sheets::TASK_CELLS;
@@ -21,8 +22,9 @@ use table::TASKS;
 ghost use mathlib.Core.Path.{_≡_};
 ghost use mathlib.Core.Bool.{not, _&&_, _||_};
 ghost use Prim.Native.Nat.{_≤_};
-ghost use lib.Dec.{ltb, eqb};
+ghost use lib.Dec.{leb, ltb, eqb};
 ghost use lib.ListN.{take, replicate};
+ghost use Rattle.laws.specs.Choice.{if_then_else_};
 ghost use Rattle.queues.specs.Queues.{turnOf};
 ghost use Rattle.laws.specs.Rows.{foundBy};
 ghost use Rattle.scheduler.specs.Inner.Choose.{ownerColumn, capacityColumn, Owned, TopsFound};
@@ -102,11 +104,21 @@ fn find_tops(
     }
 }
 
-// Whether a server is able; `waits` is 0 if no job of it waits.
-fn is_able(capacity: u32, used: u32, kind: u32, waits: u8) -> bool
-    ensures { λ r. ⌜ r ≡ (ltb used capacity && (not (eqb kind 0) || ltb 0 waits)) ⌝ }
+// The capacity in force at the tick after so many: none until the server has started.
+fn in_force(phase: u32, ticks: u32, capacity: u32) -> u32
+    ensures { λ r. ⌜ r ≡ (if leb phase ticks then capacity else 0) ⌝ }
 {
-    if capacity <= used {
+    if phase <= ticks {
+        return capacity;
+    }
+    0
+}
+
+// Whether a server is able; `force` is its capacity in force, and `waits` is 0 if no job of it waits.
+fn is_able(force: u32, used: u32, kind: u32, waits: u8) -> bool
+    ensures { λ r. ⌜ r ≡ (ltb used force && (not (eqb kind 0) || ltb 0 waits)) ⌝ }
+{
+    if force <= used {
         return false;
     }
     if kind != 0 {
@@ -133,8 +145,10 @@ fn find_able(
         let priority = sheets::server_cell(servers, SERVER_PRIORITY, i);
         if high < priority {
             let capacity = sheets::server_cell(servers, column, i);
+            let phase = sheets::server_cell(servers, PHASE, i);
+            let force = in_force(phase, h.ticks.0, capacity);
             let kind = sheets::server_cell(servers, KIND, i);
-            if is_able(capacity, used[i], kind, found[i]) {
+            if is_able(force, used[i], kind, found[i]) {
                 high = priority;
                 best = i;
             }

@@ -138,7 +138,7 @@ pub(crate) fn tick_in(
     let left = z.left;
     let settled = Head { mode, ..h };
     let turn = choose::choose_turn(settled, servers, tasks, used, waiting, found);
-    let head = advance::advance(settled, turn, used, elapsed, runs);
+    let head = advance::advance(settled, turn, servers, used, elapsed, runs);
     let answer = TickAnswer {
         tick,
         mode,

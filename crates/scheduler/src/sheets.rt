@@ -28,7 +28,9 @@ pub(crate) const CAPACITY_D1: usize = 4 * SERVERS;
 
 pub(crate) const CAPACITY_D2: usize = 5 * SERVERS;
 
-pub(crate) const SERVER_CELLS: usize = 6 * SERVERS;
+pub(crate) const PHASE: usize = 6 * SERVERS;
+
+pub(crate) const SERVER_CELLS: usize = 7 * SERVERS;
 
 pub(crate) const HOME: usize = 0;
 
@@ -48,7 +50,7 @@ pub(crate) const TASK_CELLS: usize = 7 * TASKS;
 
 // Row i of the column that begins there.
 pub(crate) fn server_cell(servers: &[u32; SERVER_CELLS], column: usize, i: usize) -> u32
-    requires { ⌜ column + i < 192 ⌝ }
+    requires { ⌜ column + i < 224 ⌝ }
     ensures { λ r. ⌜ r ≡ getD (now (servers .entry)) (column + i) 0 ⌝ }
 {
     servers[column + i]
@@ -62,7 +64,7 @@ pub(crate) fn task_cell(tasks: &[u32; TASK_CELLS], column: usize, k: usize) -> u
 }
 
 fn put_server_cell(servers: &mut [u32; SERVER_CELLS], column: usize, i: usize, v: u32)
-    requires { ⌜ column + i < 192 ⌝ }
+    requires { ⌜ column + i < 224 ⌝ }
     ensures { λ r. ⌜ now (servers .exit) ≡ set (now (servers .entry)) (column + i) v ⌝ }
 {
     servers[column + i] = v;
@@ -120,10 +122,11 @@ fn put_server(sheet: &mut [u32; SERVER_CELLS], i: usize, s: Server)
     put_server_cell(sheet, CAPACITY_N, i, c.n.0);
     put_server_cell(sheet, CAPACITY_D1, i, c.d1.0);
     put_server_cell(sheet, CAPACITY_D2, i, c.d2.0);
+    put_server_cell(sheet, PHASE, i, s.phase.0);
 }
 
 pub(crate) fn server_sheet(servers: [Server; SERVERS]) -> [u32; SERVER_CELLS]
-    ensures { λ r. ⌜ (length servers ≡ 32) × OnSheet 32 6 (λ i. serverCells (getD servers i noServer)) 32 r ⌝ }
+    ensures { λ r. ⌜ (length servers ≡ 32) × OnSheet 32 7 (λ i. serverCells (getD servers i noServer)) 32 r ⌝ }
 {
     let mut sheet = [0u32; SERVER_CELLS];
     for i in 0..SERVERS {

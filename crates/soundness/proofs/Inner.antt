@@ -17,7 +17,7 @@ use Rattle.soundness.specs.Inner.{serverTests, taskTests, serversSound, 
 
 module _ (t : Table) (s : State) where
   pub server-tests : (i : ℕ) →
-      every (soundServer t s i) ≡ every (serverTests (serverAt t i) (usedAt s i) (elapsedAt s i))
+      every (soundServer t s i) ≡ every (serverTests (serverAt t i) (s .ticks .0) (usedAt s i) (elapsedAt s i))
   unfolding soundServer serverTests
   server-tests i = refl
 

@@ -1,9 +1,9 @@
 -- Soundness by rows, as the code asks it: only contracts of inner functions cite this.
 -- `Rattle.run.specs.Sound` says it.
-use mathlib.Core.Bool.{Bool, not, _&&_}
+use mathlib.Core.Bool.{Bool, not, _&&_, _||_}
 use mathlib.Core.List.{List, [], _∷_}
 use Prim.Native.Nat.{ℕ}
-use lib.Dec.{leb, ltb}
+use lib.Dec.{leb, ltb, eqb}
 use Rattle.laws.specs.Choice.{every}
 use Rattle.laws.specs.Rows.{allBelow}
 use Rattle.table.specs.declared.Mode.{Mode}
@@ -15,10 +15,14 @@ use Rattle.queues.specs.Sound.{queueSound}
 use Rattle.run.specs.declared.State.{State}
 use Rattle.run.specs.Sound.{soundServer, soundTask}
 
--- of a server's row, its used count and its elapsed count
-unfoldable pub serverTests : Server → ℕ → ℕ → List Bool
-serverTests s used elapsed =
-    leb elapsed (s .period .0) ∷ leb used elapsed ∷ leb used (largest (s .capacity) .0) ∷ []
+-- of a server's row, the ticks taken, its used count and its elapsed count
+unfoldable pub serverTests : Server → ℕ → ℕ → ℕ → List Bool
+serverTests s ticks used elapsed =
+    leb elapsed (s .period .0)
+    ∷ leb used elapsed
+    ∷ leb used (largest (s .capacity) .0)
+    ∷ (leb (s .phase .0) ticks || eqb used 0 && eqb elapsed 0)
+    ∷ []
 
 -- of a task's row, its waiting jobs, the front one's run count, and whether it is the last-run task
 unfoldable pub taskTests : Task → Mode → ℕ → ℕ → Bool → List Bool

@@ -8,20 +8,34 @@ use table::Server;
 use table::Table;
 use table::Task;
 ghost use mathlib.Core.Path.{_≡_};
-ghost use mathlib.Core.Bool.{_&&_};
+ghost use mathlib.Core.Bool.{_&&_, _||_};
 ghost use Prim.Native.Nat.{_≤_};
-ghost use lib.Dec.{ltb};
+ghost use lib.Dec.{leb, ltb, eqb};
 ghost use Rattle.laws.specs.Choice.{every};
 ghost use Rattle.table.specs.Rows.{isLow, isD2};
 ghost use Rattle.run.specs.Sound.{sound};
 ghost use Rattle.soundness.specs.Inner.{serverTests, taskTests, serversSound, tasksSound};
 
-fn server_sound(s: Server, used: u32, elapsed: u32) -> bool
-    ensures { λ r. ⌜ r ≡ every (serverTests s used elapsed) ⌝ }
+// Of a server before its phase: "used 0 and elapsed 0". Of one that has started it is not asked.
+fn unused_before(phase: u32, ticks: u32, used: u32, elapsed: u32) -> bool
+    ensures { λ r. ⌜ r ≡ (leb phase ticks || eqb used 0 && eqb elapsed 0) ⌝ }
+{
+    if phase <= ticks {
+        return true;
+    }
+    if used != 0 {
+        return false;
+    }
+    elapsed == 0
+}
+
+fn server_sound(s: Server, ticks: u32, used: u32, elapsed: u32) -> bool
+    ensures { λ r. ⌜ r ≡ every (serverTests s ticks used elapsed) ⌝ }
 {
     let c = s.capacity;
     let most = table::largest_of(c).0;
-    laws::all_of(&[elapsed <= s.period.0, used <= elapsed, used <= most])
+    let before = unused_before(s.phase.0, ticks, used, elapsed);
+    laws::all_of(&[elapsed <= s.period.0, used <= elapsed, used <= most, before])
 }
 
 fn servers_sound(t: Table, s: State) -> bool
@@ -30,7 +44,7 @@ fn servers_sound(t: Table, s: State) -> bool
 {
     for i in 0..t.nservers {
         let row = t.servers[i];
-        if !server_sound(row, s.used[i], s.elapsed[i]) {
+        if !server_sound(row, s.ticks.0, s.used[i], s.elapsed[i]) {
             return false;
         }
     }

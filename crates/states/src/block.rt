@@ -78,7 +78,7 @@ pub(crate) fn last_of(any: u64, row: u64) -> Last {
     }
 }
 
-// The last three numbers of a server line and of a task line.
+// Three numbers of a server line and of a task line: "in N, D1, D2".
 fn by_mode(f: Fields) -> ByMode {
     let v = f.values;
     ByMode {
@@ -88,6 +88,7 @@ fn by_mode(f: Fields) -> ByMode {
     }
 }
 
+// The phase is 0 where it is not given: there is no number in its place.
 fn server_in(f: Fields) -> Server {
     let v = f.values;
     Server {
@@ -96,6 +97,7 @@ fn server_in(f: Fields) -> Server {
         priority: byte(v[3]),
         period: Ticks(narrow(v[4])),
         capacity: by_mode(f),
+        phase: Ticks(narrow(v[8])),
     }
 }
 
@@ -126,6 +128,7 @@ fn table_of(tick: u64, nservers: usize, ntasks: usize) -> Table {
         priority: 0,
         period: Ticks(0),
         capacity: no_times(),
+        phase: Ticks(0),
     };
     let task = Task {
         home: 0,
@@ -330,6 +333,9 @@ fn add_queue(b: Block, f: Fields) -> Block {
 // A line of a table block that is no operation, but its first.
 pub(crate) fn take_row(b: Block, word: &[u8], f: Fields) -> Block {
     if is_line(word, f, b"server", &[BYTE, 1, BYTE, WIDE, WIDE, WIDE, WIDE]) {
+        return add_server(b, f);
+    }
+    if is_line(word, f, b"server", &[BYTE, 1, BYTE, WIDE, WIDE, WIDE, WIDE, WIDE]) {
         return add_server(b, f);
     }
     if is_line(word, f, b"task", &[BYTE, BYTE, BYTE, 2, WIDE, WIDE, WIDE]) {

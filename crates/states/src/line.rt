@@ -15,7 +15,7 @@ pub const LARGE: u64 = 99999999999;
 // Stands where there is no number, past every bound.
 const NO_NUMBER: u64 = 18446744073709551615;
 // The most fields that a line of the format has, its word among them.
-const FIELDS: usize = 8;
+const FIELDS: usize = 9;
 
 // How many fields a line has, or one more than the most, and the number of each. A word is no
 // number.
@@ -58,7 +58,7 @@ pub(crate) fn fields_of(line: &[u8]) -> Fields {
 
 // Whether a line is the wanted word and then numbers, one for each bound and within it.
 pub(crate) fn is_line(word: &[u8], f: Fields, wanted: &[u8], most: &[u64]) -> bool
-    requires { ⌜ length (now most) ≤ 7 ⌝ }
+    requires { ⌜ length (now most) ≤ 8 ⌝ }
 {
     if !decimal::is_same(word, wanted) {
         return false;

@@ -26,7 +26,7 @@ use Rattle.table.specs.declared.Mode.the-variants.{N, D1, D2}
 use Rattle.table.specs.declared.Server.{Server}
 use Rattle.table.specs.declared.Task.{Task}
 use Rattle.table.specs.declared.Table.{Table}
-use Rattle.table.specs.Rows.{Rows, rowsOf, noServer, noTask, serverAt, taskAt, inMode, isTimed, priorityAt, periodAt, capacityAt, taskPriorityAt, limitAt}
+use Rattle.table.specs.Rows.{Rows, rowsOf, noServer, noTask, serverAt, taskAt, inMode, isTimed, priorityAt, periodAt, capacityAt, phaseAt, taskPriorityAt, limitAt}
 use Rattle.table.specs.Rules.{serverKeeps, taskKeeps, rowThere, samePartition, degradedTimed, timedAtHome, taskFault, taskStands, differ, keeps, tableKeeps}
 use Rattle.table.specs.Inner.{Sized, placeIn, rowsFault}
 use Rattle.table.proofs.Inner.{all-in-use, column-apart}
@@ -38,6 +38,7 @@ pub record ServerRules (t : Table) (i : ℕ) : Type 0 where
   pub period-low : 1 ≤ periodAt t i
   pub period-high : periodAt t i ≤ 1000000
   pub capacity : (m : Mode) → capacityAt t m i ≤ periodAt t i
+  pub phase : phaseAt t i < periodAt t i
 
 pub record TaskRules (t : Table) (k : ℕ) : Type 0 where
   pub home : taskAt t k .home < t .nservers
@@ -82,6 +83,7 @@ server-rules t i e =
           (leb-true (s .capacity .n .0) (s .period .0) (b 3))
           (leb-true (s .capacity .d1 .0) (s .period .0) (b 4))
           (leb-true (s .capacity .d2 .0) (s .period .0) (b 5));
+      phase = ltb-true (s .phase .0) (s .period .0) (b 6);
     }
   where
     each : (m : Mode) → capacityAt t N i ≤ periodAt t i → capacityAt t D1 i ≤ periodAt t i → capacityAt t D2 i ≤ periodAt t i → capacityAt t m i ≤ periodAt t i

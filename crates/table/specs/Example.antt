@@ -14,9 +14,21 @@ use Rattle.table.specs.Rows.{Rows, tableOf}
 abbrev pub byMode : ℕ → ℕ → ℕ → ByMode
 byMode a b c = record { n = record { 0 = a }; d1 = record { 0 = b }; d2 = record { 0 = c } }
 
+-- 02, No. 7: a server that starts with the tick of its phase, and one "without the field", which
+-- "has phase 0"
+abbrev pub lateServer : ℕ → ℕ → Kind → ℕ → ℕ → ByMode → Server
+lateServer phase partition kind priority period capacity =
+    record {
+      partition = partition;
+      kind = kind;
+      priority = priority;
+      period = record { 0 = period };
+      capacity = capacity;
+      phase = record { 0 = phase };
+    }
+
 abbrev pub server : ℕ → Kind → ℕ → ℕ → ByMode → Server
-server partition kind priority period capacity =
-    record { partition = partition; kind = kind; priority = priority; period = record { 0 = period }; capacity = capacity }
+server = lateServer 0
 
 abbrev pub task : ℕ → ℕ → ℕ → Level → ByMode → Task
 task home degraded priority level limit =

@@ -12,7 +12,7 @@ abbrev pub numberOf : Refusal → ℕ
 numberOf Malformed = 1
 -- a number or row count out of bounds; text too long
 numberOf OutOfBounds = 2
--- period or capacity not whole ticks
+-- period or capacity not whole ticks; 02, No. 7: nor a phase
 numberOf NotWhole = 3
 -- absent server row
 numberOf AbsentRow = 41

@@ -48,7 +48,15 @@ abbrev pub noTicks : ByMode
 noTicks = record { n = record { 0 = 0 }; d1 = record { 0 = 0 }; d2 = record { 0 = 0 } }
 
 abbrev pub noServer : Server
-noServer = record { partition = 0; kind = Event; priority = 0; period = record { 0 = 0 }; capacity = noTicks }
+noServer =
+    record {
+      partition = 0;
+      kind = Event;
+      priority = 0;
+      period = record { 0 = 0 };
+      capacity = noTicks;
+      phase = record { 0 = 0 };
+    }
 
 abbrev pub noTask : Task
 noTask = record { home = 0; degraded = 0; priority = 0; level = LO; limit = noTicks }
@@ -74,6 +82,9 @@ priorityAt t i = serverAt t i .priority
 
 abbrev pub periodAt : Table → ℕ → ℕ
 periodAt t i = serverAt t i .period .0
+
+abbrev pub phaseAt : Table → ℕ → ℕ
+phaseAt t i = serverAt t i .phase .0
 
 abbrev pub capacityAt : Table → Mode → ℕ → ℕ
 capacityAt t m i = inMode (serverAt t i .capacity) m .0

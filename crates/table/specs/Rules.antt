@@ -26,7 +26,8 @@ abbrev pub priorityKeeps : ℕ → Bool
 priorityKeeps = within 1 255
 
 -- "partition 0 to 15; kind; priority 1 to 255, greater first; period; capacities in N, D1, D2.
--- Period 1 to 1,000,000 ticks, capacity 0 to the period"
+-- Period 1 to 1,000,000 ticks, capacity 0 to the period". 02, No. 7: "Each server row gets a phase,
+-- 0 to period less 1".
 unfoldable pub serverKeeps : Server → List Bool
 serverKeeps s =
     within 0 15 (s .partition)
@@ -35,6 +36,7 @@ serverKeeps s =
     ∷ leb (s .capacity .n .0) (s .period .0)
     ∷ leb (s .capacity .d1 .0) (s .period .0)
     ∷ leb (s .capacity .d2 .0) (s .period .0)
+    ∷ ltb (s .phase .0) (s .period .0)
     ∷ []
 
 -- "limits for N, D1, D2, each rounded up to a tick, then 1 to 100,000"

@@ -44,12 +44,14 @@ pub struct ByMode {
     pub d2: Ticks,
 }
 
+// A server's first period begins with the tick whose number is its phase.
 pub struct Server {
     pub partition: u8,
     pub kind: Kind,
     pub priority: u8,
     pub period: Ticks,
     pub capacity: ByMode,
+    pub phase: Ticks,
 }
 
 pub struct Task {
@@ -157,6 +159,7 @@ pub fn no_table() -> Table
         priority: 0,
         period: Ticks(0),
         capacity: none,
+        phase: Ticks(0),
     };
     let k = Task {
         home: 0,
@@ -330,6 +333,7 @@ fn server_keeps(s: Server) -> bool
             c.n.0 <= s.period.0,
             c.d1.0 <= s.period.0,
             c.d2.0 <= s.period.0,
+            s.phase.0 < s.period.0,
         ],
     )
 }

@@ -1,6 +1,6 @@
 -- Which texts the reader takes: exactly those whose lines, each closed, all keep the rules where
 -- they stand. Rows that keep the rules are the rows of such lines, and the rows' own lines are
--- those with the task times rounded up. Assumes nothing.
+-- those with the task times rounded up and no phase 0. Assumes nothing.
 use mathlib.Core.Path.{_≡_, refl, sym, ap, _∙_, subst}
 use mathlib.Core.Bool.{true, not}
 use mathlib.Core.List.{List, [], _∷_, _++_, map, append-assoc, append-nil}
@@ -27,11 +27,11 @@ use Rattle.table.specs.Pairs.{equalServers, equalTasks}
 use Rattle.table.proofs.Pairs.{differ-pair, pair-differ}
 use Rattle.text.specs.declared.Line.{Line}
 use Rattle.text.specs.declared.Line.the-variants.{OfTick, OfServer, OfTask, Malformed}
-use Rattle.text.specs.Standing.{isNil, anything, taskOf, placed, bounds, taskBounds, wholes, fault, tell_at_or_, standing, grown}
+use Rattle.text.specs.Standing.{isNil, anything, taskOf, placed, bounds, serverBounds, taskBounds, wholes, serverWhole, fault, tell_at_or_, standing, grown}
 use Rattle.text.specs.Allowed.{KeptFrom, grownBy, Allowed}
 use Rattle.text.specs.Write.{serverBack, taskBack, serverLines, taskLines, linesOf}
 use Rattle.text.proofs.Lines.{Writable}
-use Rattle.text.proofs.Ticks.{server-there, task-there, rounded}
+use Rattle.text.proofs.Ticks.{said-left-out, server-there, task-there, rounded}
 use Rattle.text.proofs.Bounds.{within-tick}
 use Rattle.text.proofs.Standing.{not-nil, standing-keeps, keeps-standing, server-bounded, server-whole, task-bounded, Good, stepped, stands-first, tick-line, tick-writable}
 use Rattle.text.specs.declared.Reading.the-variants.{Taken}
@@ -44,11 +44,11 @@ abbrev pub AllWritable : List Line → Type 0
 AllWritable [] = Unit {0}
 AllWritable (l ∷ ls) = Writable l × AllWritable ls
 
--- rounding a task's times up to a tick changes nothing that is judged
+-- rounding a task's times up to a tick and leaving a phase 0 out change nothing that is judged
 rounded-standing : (n : ℕ) (a : Rows) (l : Line) → 0 < a .tick .0 → standing n a (rounded (a .tick .0) l) ≡ standing n a l
-unfolding rounded standing placed bounds taskBounds wholes fault
+unfolding rounded standing placed bounds serverBounds taskBounds wholes serverWhole fault
 rounded-standing n a (OfTick t) h = refl
-rounded-standing n a (OfServer s) h = refl
+rounded-standing n a (OfServer s) h = rw (said-left-out (s .phase))
 rounded-standing n a (OfTask k) h =
     let t = a .tick .0 in
     ap

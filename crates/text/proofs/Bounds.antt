@@ -6,7 +6,7 @@ use mathlib.Core.Path.{_≡_, refl, sym, _∙_}
 use mathlib.Core.Bool.{Bool, true, false}
 use mathlib.Core.List.{List, [], _∷_}
 use mathlib.Core.Logic.{_↔_}
-use Prim.Native.Nat.{ℕ, _*_, _≤_, _<_}
+use Prim.Native.Nat.{ℕ, _+_, _*_, _≤_, _<_}
 use native.Mathlib.Omega.{arith}
 use native.Mathlib.Nat.{mul-le-mul-left, mul-le-mul-right}
 use borrow.Author.Tests.{ltb-true, lt-ltb, leb-true, le-leb}
@@ -19,7 +19,7 @@ use Rattle.table.specs.Rows.{Rows}
 use Rattle.text.specs.declared.ServerLine.{ServerLine}
 use Rattle.text.specs.declared.TaskLine.{TaskLine}
 use Rattle.text.specs.declared.Line.the-variants.{OfTick}
-use Rattle.text.specs.Standing.{serverBounds, taskBounds, bounds}
+use Rattle.text.specs.Standing.{phaseSaid, serverBounds, taskBounds, bounds}
 
 -- every test of a list holds if each does
 infixr 5 _also_
@@ -58,6 +58,7 @@ pub record ServerWithin (rows t : ℕ) (s : ServerLine) : Type 0 where
   pub n : s .capacity .n .0 ≤ s .period .0
   pub d1 : s .capacity .d1 .0 ≤ s .period .0
   pub d2 : s .capacity .d2 .0 ≤ s .period .0
+  pub phase : phaseSaid (s .phase) .0 + t ≤ s .period .0
 
 pub server-within : (rows t : ℕ) (s : ServerLine) → every (serverBounds rows t s) ≡ true → ServerWithin rows t s
 unfolding serverBounds
@@ -73,6 +74,7 @@ server-within rows t s e =
       n = leb-true (s .capacity .n .0) (s .period .0) (b 5);
       d1 = leb-true (s .capacity .d1 .0) (s .period .0) (b 6);
       d2 = leb-true (s .capacity .d2 .0) (s .period .0) (b 7);
+      phase = leb-true (phaseSaid (s .phase) .0 + t) (s .period .0) (b 8);
     }
 
 pub within-server : (rows t : ℕ) (s : ServerLine) → ServerWithin rows t s → every (serverBounds rows t s) ≡ true
@@ -87,6 +89,7 @@ within-server rows t s w =
     also le-leb (s .capacity .n .0) (s .period .0) (w .n)
     also le-leb (s .capacity .d1 .0) (s .period .0) (w .d1)
     also le-leb (s .capacity .d2 .0) (s .period .0) (w .d2)
+    also le-leb (phaseSaid (s .phase) .0 + t) (s .period .0) (w .phase)
     also none)
 
 pub server-bounds-exactly : (rows t : ℕ) (s : ServerLine) →

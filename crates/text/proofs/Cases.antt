@@ -22,7 +22,7 @@ use Rattle.text.specs.Words.{tickWord, serverWord, taskWord, eventWord, 
 use Rattle.text.specs.Line.{tickForm, serverForm, taskForm, fieldTests, formTests, lineBy, lineOf, readLine, fieldsOf, writeLine}
 use Rattle.text.specs.Standing.{placed, serverBounds, taskBounds, bounds, serverWhole, wholes, fault, standing, grown}
 use Rattle.text.specs.Read.{readingNumber, readingValues, compared, ended, read}
-use Rattle.text.specs.Write.{serverLines, taskLines, linesOf, write, wrote, allTimesWhole, timesWhole}
+use Rattle.text.specs.Write.{serverLines, taskLines, linesOf, write, wrote, allLines, timesWhole, noPhaseZero}
 
 unfoldable computed : Unit {0}
 unfolding
@@ -30,7 +30,7 @@ unfolding
     tableKeeps keeps serverKeeps taskKeeps taskFault taskStands differ laterEqual firstPair tickWord serverWord
     taskWord eventWord timedWord loWord miWord hiWord tickForm serverForm taskForm fieldTests formTests lineBy lineOf readLine
     fieldsOf writeLine placed serverBounds taskBounds bounds serverWhole wholes fault standing grown compared
-    ended read serverLines taskLines linesOf write wrote allTimesWhole
+    ended read serverLines taskLines linesOf write wrote allLines
 computed = tt
 
 -- the number, and what comes back with it: line and field, or both lines
@@ -44,6 +44,10 @@ server tick times = bytes "tick\t" ++ lined (tick ∷ []) ++ bytes "server\t0\tt
 -- a whole text: a server of 2 ticks, and a task with these limits
 abbrev whole : String → List ℕ
 whole limits = server "1000" "2000\t1000\t1000\t1000" ++ bytes "task\t0\t0\t1\tLO\t" ++ lined (limits ∷ [])
+
+-- and one with a task of one tick, below a server with these times
+abbrev above : String → List ℕ
+above times = server "1000" times ++ lined ("task\t0\t0\t1\tLO\t1000\t1000\t1000" ∷ [])
 
 pub tick-of-0 : said (lined ("tick\t0" ∷ [])) ≡ 2 ∷ 1 ∷ 1 ∷ []
 unfolding computed
@@ -122,3 +126,46 @@ pub byte-behind-the-text :
     wrote (tableOf (read text .rows)) (replicate (length text) 0 ++ (7 ∷ [])) .room ≡ text ++ (7 ∷ [])
 unfolding computed
 byte-behind-the-text = refl
+
+-- 02, No. 7: a server of 2 ticks with a phase, "0 to period less 1, in whole ticks, as a last field"
+pub phase-of-the-last-tick : said (above "2000\t1000\t1000\t1000\t1000") ≡ 0 ∷ []
+unfolding computed
+phase-of-the-last-tick = refl
+
+pub phase-equal-to-the-period : said (server "1000" "2000\t1000\t1000\t1000\t2000") ≡ 2 ∷ 2 ∷ 8 ∷ []
+unfolding computed
+phase-equal-to-the-period = refl
+
+-- above the period less one tick by a microsecond, and not whole: 2 comes before 3
+pub phase-above-by-a-microsecond : said (server "1000" "2000\t1000\t1000\t1000\t1001") ≡ 2 ∷ 2 ∷ 8 ∷ []
+unfolding computed
+phase-above-by-a-microsecond = refl
+
+pub phase-not-whole : said (server "1000" "2000\t1000\t1000\t1000\t999") ≡ 3 ∷ 2 ∷ 8 ∷ []
+unfolding computed
+phase-not-whole = refl
+
+pub phase-empty : said (server "1000" "2000\t1000\t1000\t1000\t") ≡ 1 ∷ 2 ∷ 8 ∷ []
+unfolding computed
+phase-empty = refl
+
+-- the count of fields comes before a malformed phase
+pub field-after-the-phase : said (server "1000" "2000\t1000\t1000\t1000\t\t") ≡ 1 ∷ 2 ∷ 0 ∷ []
+unfolding computed
+field-after-the-phase = refl
+
+pub phase-after-a-capacity : said (server "1000" "2000\t1000\t1000\t2001\t2000") ≡ 2 ∷ 2 ∷ 7 ∷ []
+unfolding computed
+phase-after-a-capacity = refl
+
+pub phase-written : write (read (above "2000\t1000\t1000\t1000\t1000") .rows) ≡ above "2000\t1000\t1000\t1000\t1000"
+unfolding computed
+phase-written = refl
+
+pub phase-of-0-left-out : write (read (above "2000\t1000\t1000\t1000\t0") .rows) ≡ above "2000\t1000\t1000\t1000"
+unfolding computed
+phase-of-0-left-out = refl
+
+pub phase-of-0-written : noPhaseZero (above "2000\t1000\t1000\t1000\t0") ≡ false
+unfolding computed
+phase-of-0-written = refl

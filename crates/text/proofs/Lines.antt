@@ -2,11 +2,13 @@
 -- has a form is written as it stands. Nothing here knows a bound or a row. Assumes nothing.
 use mathlib.Core.Path.{_≡_, refl, sym, ap, ap₂, _∙_}
 use mathlib.Core.Bool.{Bool, true, false, _||_}
-use mathlib.Core.List.{List, [], _∷_}
+use mathlib.Core.List.{List, [], _∷_, _++_}
 use mathlib.Core.Logic.{_⊎_, inl, inr}
 use Prim.Native.Nat.{ℕ, suc, _≤_, _<_}
 use native.Mathlib.Omega.{arith}
-use lib.ListN.{length, getD}
+use lib.Dec.{ltb}
+use lib.ListN.{length, getD, take}
+use borrow.Author.Tests.{ltb-true, ltb-false}
 use Rattle.laws.specs.declared.Found.{Found}
 use Rattle.laws.specs.declared.Found.the-variants.{At, Nothing}
 use Rattle.laws.specs.Choice.{if_then_else_, every, within}
@@ -22,12 +24,15 @@ use Rattle.table.specs.declared.Kind.the-variants.{Event, Timed}
 use Rattle.table.specs.declared.Level.{Level}
 use Rattle.table.specs.declared.Level.the-variants.{LO, MI, HI}
 use Rattle.text.specs.declared.Times.{Times}
+use Rattle.text.specs.declared.LastField.{LastField}
+use Rattle.text.specs.declared.LastField.the-variants.{Absent, Given}
+use Rattle.text.specs.declared.ServerLine.{ServerLine}
 use Rattle.text.specs.declared.Word.{Word}
 use Rattle.text.specs.declared.Word.the-variants.{ATick, AServer, ATask, Unknown}
 use Rattle.text.specs.declared.Line.{Line}
 use Rattle.text.specs.declared.Line.the-variants.{OfTick, OfServer, OfTask, Malformed}
 use Rattle.text.specs.Words.{tickWord, serverWord, taskWord, eventWord, timedWord, loWord, miWord, hiWord, isKind, kindOf, kindWord, isLevel, levelOf, levelWord}
-use Rattle.text.specs.Line.{Expected, aNumber, aKind, aLevel, fits, Form, tickForm, serverForm, taskForm, fieldTests, formTests, microsAt, serverSaid, taskSaid, leading, wordOf, saidUnless, formed, lineBy, lineOf, readLine, timesFields, fieldsOf, writeLine}
+use Rattle.text.specs.Line.{Expected, aNumber, aKind, aLevel, fits, Form, tickForm, serverForm, taskForm, fieldTests, formTests, microsAt, serverSaid, taskSaid, leading, wordOf, saidUnless, formed, lineBy, lineOf, readLine, timesFields, lastFields, fieldsOf, writeLine}
 
 -- A line that has a text: it has a form, and each number has at most 11 digits.
 abbrev pub Short : ℕ → Type 0
@@ -36,9 +41,14 @@ Short n = n < 100000000000
 abbrev pub ShortTimes : Times → Type 0
 ShortTimes x = Short (x .n .0) × Short (x .d1 .0) × Short (x .d2 .0)
 
+abbrev pub ShortLast : LastField → Type 0
+ShortLast Absent = Unit {0}
+ShortLast (Given u) = Short (u .0)
+
 abbrev pub Writable : Line → Type 0
 Writable (OfTick t) = Short (t .0)
-Writable (OfServer s) = Short (s .partition) × Short (s .priority) × Short (s .period .0) × ShortTimes (s .capacity)
+Writable (OfServer s) =
+    Short (s .partition) × Short (s .priority) × Short (s .period .0) × ShortTimes (s .capacity) × ShortLast (s .phase)
 Writable (OfTask k) = Short (k .home) × Short (k .degraded) × Short (k .priority) × ShortTimes (k .limit)
 Writable (Malformed word field) = ⊥
 
@@ -138,13 +148,22 @@ formed-ind P form fs said f m = go (firstFailed (formTests form fs)) refl
     go (At field) e = m field
     go Nothing e = f (failed-none (formTests form fs) .0 e)
 
--- what the fields of a line say
-line-of-fields : (l : Line) → Writable l → lineOf (fieldsOf l) ≡ l
-unfolding lineOf lineBy fieldsOf tickForm serverForm taskForm formTests fieldTests every same tickWord serverWord taskWord
-line-of-fields (OfTick t) w =
-    let fs = digits (t .0) ∷ [] in
-    said-formed tickForm fs (OfTick (microsAt fs 1)) (rw (number-digits (t .0) w)) ∙ rw (worth-digits (t .0))
-line-of-fields (OfServer s) w =
+-- what the fields of a server's line say, with its last field or without
+abbrev withPhase : ServerLine → LastField → ServerLine
+withPhase s p =
+    record {
+      partition = s .partition;
+      kind = s .kind;
+      priority = s .priority;
+      period = s .period;
+      capacity = s .capacity;
+      phase = p;
+    }
+
+server-of-fields : (s : ServerLine) (p : LastField) → Writable (OfServer (withPhase s p)) →
+    lineOf (fieldsOf (OfServer (withPhase s p))) ≡ OfServer (withPhase s p)
+unfolding lineOf lineBy fieldsOf serverForm formTests fieldTests every same tickWord serverWord taskWord
+server-of-fields s Absent w =
     let fs = digits (s .partition) ∷ kindWord (s .kind) ∷ digits (s .priority) ∷ digits (s .period .0) ∷ timesFields (s .capacity) in
     said-formed serverForm fs (OfServer (serverSaid fs))
     (rw (
@@ -165,6 +184,42 @@ line-of-fields (OfServer s) w =
       worth-digits (s .capacity .d1 .0),
       worth-digits (s .capacity .d2 .0),
     )
+server-of-fields s (Given u) w =
+    let fs =
+    digits (s .partition)
+    ∷ kindWord (s .kind)
+    ∷ digits (s .priority)
+    ∷ digits (s .period .0)
+    ∷ (timesFields (s .capacity) ++ (digits (u .0) ∷ [])) in
+    said-formed serverForm fs (OfServer (serverSaid fs))
+    (rw (
+      number-digits (s .partition) (w .0),
+      kind-word (s .kind),
+      number-digits (s .priority) (w .1),
+      number-digits (s .period .0) (w .2),
+      number-digits (s .capacity .n .0) (w .3 .0),
+      number-digits (s .capacity .d1 .0) (w .3 .1),
+      number-digits (s .capacity .d2 .0) (w .3 .2),
+      number-digits (u .0) (w .4),
+    ))
+    ∙ rw (
+      worth-digits (s .partition),
+      kind-back (s .kind),
+      worth-digits (s .priority),
+      worth-digits (s .period .0),
+      worth-digits (s .capacity .n .0),
+      worth-digits (s .capacity .d1 .0),
+      worth-digits (s .capacity .d2 .0),
+      worth-digits (u .0),
+    )
+
+-- what the fields of a line say
+line-of-fields : (l : Line) → Writable l → lineOf (fieldsOf l) ≡ l
+unfolding lineOf lineBy fieldsOf tickForm serverForm taskForm formTests fieldTests every same tickWord serverWord taskWord
+line-of-fields (OfTick t) w =
+    let fs = digits (t .0) ∷ [] in
+    said-formed tickForm fs (OfTick (microsAt fs 1)) (rw (number-digits (t .0) w)) ∙ rw (worth-digits (t .0))
+line-of-fields (OfServer s) w = server-of-fields s (s .phase) w
 line-of-fields (OfTask k) w =
     let fs = digits (k .home) ∷ digits (k .degraded) ∷ digits (k .priority) ∷ levelWord (k .level) ∷ timesFields (k .limit) in
     said-formed taskForm fs (OfTask (taskSaid fs))
@@ -190,6 +245,11 @@ line-of-fields (Malformed word field) w = absurd w
 
 -- each field is at least `0` byte by byte, so a line's text has no line feed, and tabs only between
 -- fields
+last-high : (p : LastField) → allHigh (lastFields p) ≡ true
+unfolding allHigh
+last-high Absent = refl
+last-high (Given u) = rw (high-digits (u .0))
+
 fields-high : (l : Line) → allHigh (fieldsOf l) ≡ true
 unfolding fieldsOf allHigh
 fields-high (OfTick t) = rw (tick-high, high-digits (t .0))
@@ -203,6 +263,7 @@ fields-high (OfServer s) =
       high-digits (s .capacity .n .0),
       high-digits (s .capacity .d1 .0),
       high-digits (s .capacity .d2 .0),
+      last-high (s .phase),
     )
 fields-high (OfTask k) =
     rw (
@@ -278,31 +339,46 @@ unfolding backFrom
 back-next [] k f fs = refl
 back-next (e ∷ es) k f fs = ap (λ r. back e (getD fs k []) ∷ r) (back-next es (suc k) f fs)
 
-back-all : (es : List Expected) (fs : List (List ℕ)) → length es ≡ length fs → every (fieldTests es fs) ≡ true →
-    backFrom es 0 fs ≡ fs
+back-all : (es : List Expected) (fs : List (List ℕ)) → length fs ≤ length es → every (fieldTests es fs) ≡ true →
+    backFrom (take (length fs) es) 0 fs ≡ fs
 unfolding backFrom fieldTests every
-back-all [] [] l h = refl
+back-all es [] l h = refl
 back-all [] (f ∷ fs) l h = absurd (omega arith)
-back-all (e ∷ es) [] l h = absurd (omega arith)
 back-all (e ∷ es) (f ∷ fs) l h =
     rw (
       back-fits e f (and-left (fits e f) (every (fieldTests es fs)) h),
-      back-next es 0 f fs,
+      back-next (take (length fs) es) 0 f fs,
       back-all es fs (omega arith) (and-right (fits e f) (every (fieldTests es fs)) h),
     )
 
--- fields that have a form of which each must be there
-form-back : (form : Form) (fs : List (List ℕ)) → length (form .fields) ≤ form .least → Has form fs →
-    backFrom (form .fields) 0 fs ≡ fs
+-- how many fields have a form, and n of them that do
+pub form-count : (form : Form) (fs : List (List ℕ)) → Has form fs →
+    (form .least ≤ length fs) × (length fs ≤ length (form .fields))
 unfolding formTests every
-form-back form fs l h =
+form-count form fs h =
     let m = length (form .fields) in
-    let c = within (form .least) m (length fs) in
+    let p = and-left (within (form .least) m (length fs)) (every (fieldTests (form .fields) fs)) h in
+    (within-low (form .least) m (length fs) p, within-high (form .least) m (length fs) p)
+
+form-back : (form : Form) (fs : List (List ℕ)) (n : ℕ) → length fs ≡ n → Has form fs →
+    backFrom (take n (form .fields)) 0 fs ≡ fs
+unfolding formTests every
+form-back form fs n e h =
+    let c = within (form .least) (length (form .fields)) (length fs) in
     let t = every (fieldTests (form .fields) fs) in
-    let p = and-left c t h in
-    back-all (form .fields) fs
-    (omega (arith, within-low (form .least) m (length fs) p, within-high (form .least) m (length fs) p))
-    (and-right c t h)
+    rw (← e) (back-all (form .fields) fs (form-count form fs h .1) (and-right c t h))
+
+-- a server's line goes on to its last field or ends before it
+server-fields : (fs : List (List ℕ)) → Has serverForm fs → fieldsOf (OfServer (serverSaid fs)) ≡ serverWord ∷ fs
+unfolding fieldsOf serverForm back backFrom
+server-fields fs h = go (ltb (length fs) 8) refl
+  where
+    c : (7 ≤ length fs) × (length fs ≤ 8)
+    c = form-count serverForm fs h
+
+    go : (b : Bool) → ltb (length fs) 8 ≡ b → fieldsOf (OfServer (serverSaid fs)) ≡ serverWord ∷ fs
+    go true e = rw e (ap (λ r. serverWord ∷ r) (form-back serverForm fs 7 (omega (arith, c, ltb-true (length fs) 8 e)) h))
+    go false e = rw e (ap (λ r. serverWord ∷ r) (form-back serverForm fs 8 (omega (arith, c, ltb-false (length fs) 8 e)) h))
 
 fields-of-line : (fs : List (List ℕ)) → Formed (lineOf fs) → fieldsOf (lineOf fs) ≡ fs
 unfolding fieldsOf tickForm serverForm taskForm back backFrom lineOf lineBy
@@ -311,13 +387,13 @@ fields-of-line (w ∷ fs) f =
     lead-ind (λ word. Formed (lineBy word fs) → fieldsOf (lineBy word fs) ≡ w ∷ fs) w
     (λ e.
     formed-ind (λ l. Formed l → fieldsOf l ≡ w ∷ fs) tickForm fs (OfTick (microsAt fs 1))
-    (λ h u. ap₂ _∷_ e (form-back tickForm fs (omega arith) h)) (λ field u. absurd u))
+    (λ h u. ap₂ _∷_ e (form-back tickForm fs 1 (omega (arith, form-count tickForm fs h)) h)) (λ field u. absurd u))
     (λ e.
     formed-ind (λ l. Formed l → fieldsOf l ≡ w ∷ fs) serverForm fs (OfServer (serverSaid fs))
-    (λ h u. ap₂ _∷_ e (form-back serverForm fs (omega arith) h)) (λ field u. absurd u))
+    (λ h u. server-fields fs h ∙ ap (λ x. x ∷ fs) e) (λ field u. absurd u))
     (λ e.
     formed-ind (λ l. Formed l → fieldsOf l ≡ w ∷ fs) taskForm fs (OfTask (taskSaid fs))
-    (λ h u. ap₂ _∷_ e (form-back taskForm fs (omega arith) h)) (λ field u. absurd u))
+    (λ h u. ap₂ _∷_ e (form-back taskForm fs 7 (omega (arith, form-count taskForm fs h)) h)) (λ field u. absurd u))
     (λ u. absurd u)
     f
 
@@ -344,6 +420,13 @@ level-length HI = omega arith
 times-length : (x : Times) → ShortTimes x → AllUpTo 11 (timesFields x)
 times-length x w = (short-digits (x .n .0) (w .0), (short-digits (x .d1 .0) (w .1), (short-digits (x .d2 .0) (w .2), tt)))
 
+last-length : (x : Times) (p : LastField) → ShortTimes x → ShortLast p → AllUpTo 11 (timesFields x ++ lastFields p)
+last-length x Absent w v = times-length x w
+last-length x (Given u) w v = (
+  short-digits (x .n .0) (w .0),
+  (short-digits (x .d1 .0) (w .1), (short-digits (x .d2 .0) (w .2), (short-digits (u .0) v, tt))),
+)
+
 fields-length : (l : Line) → Writable l → AllUpTo 11 (fieldsOf l)
 unfolding fieldsOf tickWord serverWord taskWord
 fields-length (OfTick t) w = (omega arith, (short-digits (t .0) w, tt))
@@ -355,7 +438,7 @@ fields-length (OfServer s) w = (
       kind-length (s .kind),
       (
         short-digits (s .priority) (w .1),
-        (short-digits (s .period .0) (w .2), times-length (s .capacity) (w .3)),
+        (short-digits (s .period .0) (w .2), last-length (s .capacity) (s .phase) (w .3) (w .4)),
       ),
     ),
   ),
@@ -375,13 +458,17 @@ fields-length (OfTask k) w = (
 )
 fields-length (Malformed word field) w = absurd w
 
-fields-many : (l : Line) → length (fieldsOf l) ≤ 8
+last-many : (p : LastField) → length (lastFields p) ≤ 1
+last-many Absent = omega arith
+last-many (Given u) = omega arith
+
+fields-many : (l : Line) → length (fieldsOf l) ≤ 9
 unfolding fieldsOf
 fields-many (OfTick t) = omega arith
-fields-many (OfServer s) = omega arith
+fields-many (OfServer s) = omega (arith, last-many (s .phase))
 fields-many (OfTask k) = omega arith
 fields-many (Malformed word field) = omega arith
 
-pub line-length : (l : Line) → Writable l → length (writeLine l) ≤ 96
+pub line-length : (l : Line) → Writable l → length (writeLine l) ≤ 108
 unfolding writeLine
 line-length l w = omega (arith, join-length tab 11 (fieldsOf l) (fields-length l w), fields-many l)

@@ -1,9 +1,10 @@
 -- 01, Tables: "Writing then reading gives the same table. Reading then writing gives the same text
--- exactly when each task time was whole ticks." Text and lines are inverse, and so are lines and
--- rows, but for task times that are rounded up. The statements to quote stand at the end. Assumes
+-- exactly when each task time was whole ticks." 02, No. 7: it "also asks that no phase 0 was
+-- written". Text and lines are inverse, and so are lines and rows, but for task times that are
+-- rounded up and a phase 0 that is left out. The statements to quote stand at the end. Assumes
 -- nothing.
 use mathlib.Core.Path.{_≡_, refl, sym, ap, subst, _∙_}
-use mathlib.Core.Bool.{true}
+use mathlib.Core.Bool.{Bool, true}
 use mathlib.Core.List.{List, [], _∷_, _++_, map, append-cancel-right}
 use mathlib.Core.Logic.{_↔_}
 use Prim.Native.Nat.{ℕ, suc, _+_, _-_, _≤_, _<_}
@@ -26,9 +27,9 @@ use Rattle.text.specs.Words.{tickWord, serverWord, taskWord}
 use Rattle.text.specs.Line.{noLine, readLine, writeLine}
 use Rattle.text.specs.Read.{taken, read, shown}
 use Rattle.text.specs.Allowed.{Allowed}
-use Rattle.text.specs.Write.{wrote, written, serverBack, taskBack, serverLines, taskLines, linesOf, write, taskTimesWhole, allTimesWhole, timesWhole}
+use Rattle.text.specs.Write.{wrote, written, serverBack, taskBack, serverLines, taskLines, linesOf, write, taskTimesWhole, allLines, timesWhole, phaseNotZero, noPhaseZero}
 use Rattle.text.proofs.Lines.{Writable, Formed, no-fields, line-lacks, read-write-line, write-read-line, line-length}
-use Rattle.text.proofs.Ticks.{rounded, whole-stays, stays-whole}
+use Rattle.text.proofs.Ticks.{rounded, whole-stays, stays-whole, stays-phase}
 use Rattle.text.proofs.Allowed.{AllWritable, Told, told, RowsKeep, good-keeps, keeps-rows, lines-taken, lines-grown}
 use Rattle.text.proofs.Allowed.{allowed-taken, taken-allowed}
 
@@ -43,7 +44,7 @@ read-written : (xs : List Line) → AllWritable xs → map readLine (map writeLi
 read-written [] w = refl
 read-written (x ∷ xs) w = rw (read-write-line x (w .0), read-written xs (w .1))
 
-lines-length : (xs : List Line) → AllWritable xs → AllUpTo 96 (map writeLine xs)
+lines-length : (xs : List Line) → AllWritable xs → AllUpTo 108 (map writeLine xs)
 lines-length [] w = tt
 lines-length (x ∷ xs) w = (line-length x (w .0), lines-length xs (w .1))
 
@@ -71,13 +72,13 @@ lines-many a =
       length-map (a .tasks) (λ k. OfTask (taskBack (a .tick .0) k)),
     )
 
-pub rows-fit : (a : Rows) → keeps a ≡ true → length (write a) ≤ 9409
+pub rows-fit : (a : Rows) → keeps a ≡ true → length (write a) ≤ 10573
 unfolding write
 rows-fit a e =
     let k = keeps-rows a e in
     omega (
       arith,
-      closed-length 96 (map writeLine (linesOf a)) (lines-length (linesOf a) (lines-told a k .writable)),
+      closed-length 108 (map writeLine (linesOf a)) (lines-length (linesOf a) (lines-told a k .writable)),
       length-map (linesOf a) writeLine,
       lines-many a,
       k .good .servers-high,
@@ -107,31 +108,35 @@ rows-keep text e =
     let d = told (map readLine (w .lines)) (w .kept) (rw (w .rows) (w .task)) in
     good-keeps (read text .rows) (rw (w .rows) at (d .good)) (w .task) (w .servers-differ) (w .tasks-differ)
 
--- Which lines stay as they stand: those whose task times are whole ticks. Nothing stands after the
--- last line feed.
+-- Which lines stay as they stand: those whose task times are whole ticks, and without a phase 0.
+-- Nothing stands after the last line feed.
 pub nothing-said : readLine [] ≡ noLine
 unfolding readLine split same tickWord serverWord taskWord
 nothing-said = no-fields []
 
-whole-stay : (t : ℕ) → 0 < t → (ls : List (List ℕ)) → allTimesWhole t (ls ++ ([] ∷ [])) ≡ true →
-    map (rounded t) (map readLine ls) ≡ map readLine ls
-unfolding allTimesWhole
-whole-stay t h [] e = refl
-whole-stay t h (l ∷ ls) e =
+whole-stay : (t : ℕ) → 0 < t → (ls : List (List ℕ)) → allLines (taskTimesWhole t) (ls ++ ([] ∷ [])) ≡ true →
+    allLines phaseNotZero (ls ++ ([] ∷ [])) ≡ true → map (rounded t) (map readLine ls) ≡ map readLine ls
+unfolding allLines
+whole-stay t h [] e z = refl
+whole-stay t h (l ∷ ls) e z =
+    let p = taskTimesWhole t (readLine l) in
+    let ps = allLines (taskTimesWhole t) (ls ++ ([] ∷ [])) in
+    let q = phaseNotZero (readLine l) in
+    let qs = allLines phaseNotZero (ls ++ ([] ∷ [])) in
     rw (
-      whole-stays t h (readLine l) (and-left (taskTimesWhole t (readLine l)) (allTimesWhole t (ls ++ ([] ∷ []))) e),
-      whole-stay t h ls (and-right (taskTimesWhole t (readLine l)) (allTimesWhole t (ls ++ ([] ∷ []))) e),
+      whole-stays t h (readLine l) (and-left p ps e) (and-left q qs z),
+      whole-stay t h ls (and-right p ps e) (and-right q qs z),
     )
 
-stay-whole : (t : ℕ) (ls : List (List ℕ)) → map (rounded t) (map readLine ls) ≡ map readLine ls →
-    allTimesWhole t (ls ++ ([] ∷ [])) ≡ true
-unfolding allTimesWhole
-stay-whole t [] e = rw nothing-said
-stay-whole t (l ∷ ls) e =
-    let p : rounded t (readLine l) ≡ readLine l = cc in
-    let q : map (rounded t) (map readLine ls) ≡ map readLine ls = cc in
-    and-true (taskTimesWhole t (readLine l)) (allTimesWhole t (ls ++ ([] ∷ []))) (stays-whole t (readLine l) p)
-    (stay-whole t ls q)
+-- what is so of each line that stays as it stands, and of none
+stay-all : (p : Line → Bool) (t : ℕ) → p noLine ≡ true → ((l : Line) → rounded t l ≡ l → p l ≡ true) →
+    (ls : List (List ℕ)) → map (rounded t) (map readLine ls) ≡ map readLine ls → allLines p (ls ++ ([] ∷ [])) ≡ true
+unfolding allLines
+stay-all p t none each [] e = rw (nothing-said, none)
+stay-all p t none each (l ∷ ls) e =
+    let q : rounded t (readLine l) ≡ readLine l = cc in
+    let r : map (rounded t) (map readLine ls) ≡ map readLine ls = cc in
+    and-true (p (readLine l)) (allLines p (ls ++ ([] ∷ []))) (each (readLine l) q) (stay-all p t none each ls r)
 
 -- two texts of lines are equal exactly if the lines are
 same-lines : (xs ys : List Line) → AllWritable xs → AllWritable ys →
@@ -142,7 +147,8 @@ same-lines xs ys v w e =
     let s = append-cancel-right (map writeLine xs) (map writeLine ys) ([] ∷ []) (sym p ∙ ap (split lineFeed) e ∙ q) in
     sym (read-written xs v) ∙ ap (map readLine) s ∙ read-written ys w
 
-allowed-text : (text : List ℕ) (a : Rows) → Allowed text a → (write a ≡ text) ↔ (timesWhole (a .tick .0) text ≡ true)
+allowed-text : (text : List ℕ) (a : Rows) → Allowed text a →
+    (write a ≡ text) ↔ ((timesWhole (a .tick .0) text ≡ true) × (noPhaseZero text ≡ true))
 unfolding write
 allowed-text text a w = (there, back)
   where
@@ -168,14 +174,18 @@ allowed-text text a w = (there, back)
     stood : closed (map writeLine xs) ≡ text
     stood = ap closed (written-read (w .lines) (d .writable)) ∙ closed-split text (w .lines) (w .closes)
 
-    there : write a ≡ text → timesWhole (a .tick .0) text ≡ true
+    there : write a ≡ text → (timesWhole (a .tick .0) text ≡ true) × (noPhaseZero text ≡ true)
     there p =
-        rw (w .closes) (stay-whole (a .tick .0) (w .lines) (same-lines ys xs short (d .writable) (sym made ∙ p ∙ sym stood)))
+        let s = same-lines ys xs short (d .writable) (sym made ∙ p ∙ sym stood) in
+        let t = a .tick .0 in (
+          rw (w .closes) (stay-all (taskTimesWhole t) t refl (stays-whole t) (w .lines) s),
+          rw (w .closes) (stay-all phaseNotZero t refl (stays-phase t) (w .lines) s),
+        )
 
-    back : timesWhole (a .tick .0) text ≡ true → write a ≡ text
+    back : (timesWhole (a .tick .0) text ≡ true) × (noPhaseZero text ≡ true) → write a ≡ text
     back p =
         made ∙ ap (λ ls. closed (map writeLine ls))
-        (whole-stay (a .tick .0) good (w .lines) (rw (w .closes) at p)) ∙ stood
+        (whole-stay (a .tick .0) good (w .lines) (rw (w .closes) at (p .0)) (rw (w .closes) at (p .1))) ∙ stood
 
 -- a table that holds the rows in use and nothing else
 pub table-rows : (a : Rows) → rowsOf (tableOf a) ≡ a
@@ -215,9 +225,11 @@ write-then-read t e =
     let b = rows-back (rowsOf t) (table-rows-keep t e) in
     (ap (λ r. r .answer) b, table-rows (read (write (rowsOf t)) .rows) ∙ ap (λ r. r .rows) b)
 
--- "Reading then writing gives the same text exactly when each task time was whole ticks."
+-- "Reading then writing gives the same text exactly when each task time was whole ticks." 02, No. 7:
+-- "01's rule on reading then writing also asks that no phase 0 was written".
 pub read-then-write : (text : List ℕ) → shown (read text) .answer ≡ Taken →
-    (write (rowsOf (shown (read text) .table)) ≡ text) ↔ (timesWhole (shown (read text) .table .tick .0) text ≡ true)
+    (write (rowsOf (shown (read text) .table)) ≡ text) ↔
+    ((timesWhole (shown (read text) .table .tick .0) text ≡ true) × (noPhaseZero text ≡ true))
 unfolding shown tableOf
 read-then-write text e = rw (table-rows (read text .rows)) (allowed-text text (read text .rows) (taken-allowed text e))
 

@@ -5,13 +5,13 @@ use mathlib.Core.Path.{_≡_, refl, ap}
 use mathlib.Core.Bool.{Bool, true, false}
 use mathlib.Core.List.{List, [], _∷_, _++_, append-assoc, append-nil, map-append}
 use mathlib.Core.Logic.{inl, inr}
-use Prim.Native.Nat.{ℕ, _*_, _/_, _%_, _≤_, _<_}
+use Prim.Native.Nat.{ℕ, suc, _+_, _*_, _/_, _%_, _≤_, _<_}
 use native.Mathlib.Omega.{arith}
 use native.Mathlib.Nat.{mul-le-mul-right, le-of-mul-le-mul-right, mul-mod-left}
 use lib.Dec.{leb, ltb}
 use lib.ListN.{length, getD, length-append, List·getD-append}
 use lib.Seq.{getD-append-seam}
-use borrow.Author.Tests.{eqb-true, leb-true, le-leb, lt-ltb}
+use borrow.Author.Tests.{eqb-true, leb-true, ltb-true, le-leb, lt-ltb}
 use Rattle.laws.specs.declared.Found.{Found}
 use Rattle.laws.specs.declared.Found.the-variants.{At, Nothing}
 use Rattle.laws.specs.Choice.{unless_say_else_, every, within}
@@ -27,6 +27,8 @@ use Rattle.table.specs.declared.Refusal.the-variants.{Malformed as MalformedWhy
 use Rattle.table.specs.Rows.{Rows, noRows, noServer, noTask}
 use Rattle.table.specs.Rules.{serverKeeps, taskKeeps, taskStands}
 use Rattle.table.proofs.Rules.{rows-there, stands}
+use Rattle.text.specs.declared.LastField.{LastField}
+use Rattle.text.specs.declared.LastField.the-variants.{Absent, Given}
 use Rattle.text.specs.declared.ServerLine.{ServerLine}
 use Rattle.text.specs.declared.TaskLine.{TaskLine}
 use Rattle.text.specs.declared.Word.{Word}
@@ -34,11 +36,11 @@ use Rattle.text.specs.declared.Line.{Line}
 use Rattle.text.specs.declared.Line.the-variants.{OfTick, OfServer, OfTask, Malformed}
 use Rattle.table.specs.declared.Standing.{Standing}
 use Rattle.table.specs.declared.Standing.the-variants.{Kept, Broken}
-use Rattle.text.specs.Standing.{isNil, serverOf, limitsOf, taskOf, placed, serverBounds, taskBounds, bounds, whole, serverWhole, wholes, fault, tell_at_or_, standing, grown}
+use Rattle.text.specs.Standing.{isNil, phaseSaid, serverOf, limitsOf, taskOf, placed, serverBounds, taskBounds, bounds, whole, serverWhole, wholes, fault, tell_at_or_, standing, grown}
 use Rattle.text.specs.Line.{wordOf, malformedAt}
 use Rattle.text.specs.Write.{serverBack, taskBack, serverLines, taskLines, linesOf}
-use Rattle.text.proofs.Lines.{Writable}
-use Rattle.text.proofs.Ticks.{whole-div, server-back, rounded}
+use Rattle.text.proofs.Lines.{Short, ShortLast, Writable}
+use Rattle.text.proofs.Ticks.{whole-div, phase-said, serverLeftOut, server-back, rounded}
 use Rattle.text.proofs.Bounds.{tick-within, server-within, within-server, task-within}
 
 -- the tests of a line in their order: kept is kept of each
@@ -107,6 +109,15 @@ capacity-ticks t c u h l = le-leb (c / t) (u / t) (div-mono c u t h l)
 capacity-micros : (t c p : ℕ) → leb c p ≡ true → c * t ≤ p * t
 capacity-micros t c p e = mul-le-mul-right t (leb-true c p e)
 
+-- a phase above the period less one tick in microseconds is one not below the period in ticks
+phase-ticks : (t p u : ℕ) → 0 < t → p % t ≡ 0 → u % t ≡ 0 → p + t ≤ u → ltb (p / t) (u / t) ≡ true
+phase-ticks t p u h d e l =
+    let m : suc (p / t) * t ≤ u / t * t = omega (arith, whole-div p t d, whole-div u t e) in
+    lt-ltb (p / t) (u / t) (omega (arith, le-of-mul-le-mul-right m h))
+
+phase-micros : (t x p : ℕ) → ltb x p ≡ true → x * t + t ≤ p * t
+phase-micros t x p e = omega (arith, mul-le-mul-right {m = suc x} {n = p} t (omega (arith, ltb-true x p e)))
+
 -- a server's line that is taken has a row that keeps the rules
 pub server-keeps : (rows t : ℕ) (s : ServerLine) → 0 < t → every (serverBounds rows t s) ≡ true →
     every (serverWhole t s) ≡ true →
@@ -122,6 +133,8 @@ server-keeps rows t s h b w =
       capacity-ticks t (s .capacity .n .0) (s .period .0) h (p .n),
       capacity-ticks t (s .capacity .d1 .0) (s .period .0) h (p .d1),
       capacity-ticks t (s .capacity .d2 .0) (s .period .0) h (p .d2),
+      phase-ticks t (phaseSaid (s .phase) .0) (s .period .0) h (eqb-true (phaseSaid (s .phase) .0 % t) 0 (q 8))
+          (eqb-true (s .period .0 % t) 0 (q 4)) (p .phase),
     )
 
 -- and a row that keeps them has a line that is taken
@@ -142,6 +155,7 @@ server-bounded rows t s l e =
       n = capacity-micros t (s .capacity .n .0) (s .period .0) (p 3);
       d1 = capacity-micros t (s .capacity .d1 .0) (s .period .0) (p 4);
       d2 = capacity-micros t (s .capacity .d2 .0) (s .period .0) (p 5);
+      phase = rw (phase-said t (s .phase)) (phase-micros t (s .phase .0) (s .period .0) (p 6));
     })
 
 pub server-whole : (t : ℕ) (s : Server) → every (serverWhole t (serverBack t s)) ≡ true
@@ -152,6 +166,8 @@ server-whole t s =
       mul-mod-left (s .capacity .n .0) t,
       mul-mod-left (s .capacity .d1 .0) t,
       mul-mod-left (s .capacity .d2 .0) t,
+      phase-said t (s .phase),
+      mul-mod-left (s .phase .0) t,
     )
 
 -- Rows that keep the rules so far, as lines are read: what `keeps` says of each row, but not yet
@@ -236,6 +252,10 @@ task-line n a x g k =
 pub tick-writable : (n : ℕ) (a : Rows) (t : Micros) → Keeps n a (OfTick t) → Writable (OfTick t)
 tick-writable n a t k = omega (arith, tick-within a t (k .bounded) .1)
 
+last-short : (p : LastField) → Short (phaseSaid p .0) → ShortLast p
+last-short Absent h = tt
+last-short (Given u) h = h
+
 server-writable : (n : ℕ) (a : Rows) (s : ServerLine) → Good a → Keeps n a (OfServer s) → Writable (OfServer s)
 unfolding bounds
 server-writable n a s g k =
@@ -248,6 +268,7 @@ server-writable n a s g k =
         omega (arith, g .high, w .period-high, w .d1),
         omega (arith, g .high, w .period-high, w .d2),
       ),
+      last-short (s .phase) (omega (arith, g .high, w .period-high, w .phase)),
     )
 
 task-writable : (n : ℕ) (a : Rows) (x : TaskLine) → Good a → Keeps n a (OfTask x) → Writable (OfTask x)
@@ -318,7 +339,7 @@ stepped n a (OfServer s) h g k =
             server-lines-more t (a .servers) (serverOf t s),
             server-back t s (k .whole),
             no-task-lines t (a .tasks) (no-task a n s k),
-            append-nil (serverLines t (a .servers) ++ (OfServer s ∷ [])),
+            append-nil (serverLines t (a .servers) ++ (OfServer (serverLeftOut s) ∷ [])),
             append-nil (serverLines t (a .servers)),
           );
     }

@@ -2,8 +2,9 @@
 -- has the form of a `tick`, a `server` or a `task` line; bounds and rows are judged in
 -- Standing.antt, and know nothing of bytes.
 use mathlib.Core.Bool.{Bool}
-use mathlib.Core.List.{List, [], _∷_}
+use mathlib.Core.List.{List, [], _∷_, _++_}
 use Prim.Native.Nat.{ℕ, _-_}
+use lib.Dec.{ltb}
 use lib.ListN.{length, getD}
 use Rattle.laws.specs.declared.Found.{Found}
 use Rattle.laws.specs.declared.Found.the-variants.{At, Nothing}
@@ -13,6 +14,8 @@ use Rattle.decimal.specs.Number.{isNumber, worth, digits}
 use Rattle.decimal.specs.Lines.{tab, split, join, same}
 use Rattle.units.specs.declared.Micros.{Micros}
 use Rattle.text.specs.declared.Times.{Times}
+use Rattle.text.specs.declared.LastField.{LastField}
+use Rattle.text.specs.declared.LastField.the-variants.{Absent, Given}
 use Rattle.text.specs.declared.ServerLine.{ServerLine}
 use Rattle.text.specs.declared.TaskLine.{TaskLine}
 use Rattle.text.specs.declared.Word.{Word}
@@ -43,11 +46,12 @@ unfoldable pub tickForm : Form
 tickForm = record { fields = aNumber ∷ []; least = 1 }
 
 -- "`server`: partition 0 to 15; kind; priority 1 to 255, greater first; period; capacities in N,
--- D1, D2."
+-- D1, D2." 02, No. 7: "Each server row gets a phase .. as a last field. .. A row without the field
+-- has phase 0": the last field may be absent.
 unfoldable pub serverForm : Form
 serverForm =
     record {
-      fields = aNumber ∷ aKind ∷ aNumber ∷ aNumber ∷ aNumber ∷ aNumber ∷ aNumber ∷ [];
+      fields = aNumber ∷ aKind ∷ aNumber ∷ aNumber ∷ aNumber ∷ aNumber ∷ aNumber ∷ aNumber ∷ [];
       least = 7;
     }
 
@@ -80,9 +84,13 @@ fieldAt fs k = getD fs (k - 1) []
 abbrev pub microsAt : List (List ℕ) → ℕ → Micros
 microsAt fs k = record { 0 = worth (fieldAt fs k) }
 
--- the last three fields: "in N, D1, D2"
+-- fields 5 to 7: "in N, D1, D2"
 abbrev pub timesAt : List (List ℕ) → Times
 timesAt fs = record { n = microsAt fs 5; d1 = microsAt fs 6; d2 = microsAt fs 7 }
+
+-- field k, the last of its form, where the line goes so far
+abbrev pub lastAt : List (List ℕ) → ℕ → LastField
+lastAt fs k = if ltb (length fs) k then Absent else Given (microsAt fs k)
 
 abbrev pub serverSaid : List (List ℕ) → ServerLine
 serverSaid fs =
@@ -92,6 +100,7 @@ serverSaid fs =
       priority = worth (fieldAt fs 3);
       period = microsAt fs 4;
       capacity = timesAt fs;
+      phase = lastAt fs 8;
     }
 
 abbrev pub taskSaid : List (List ℕ) → TaskLine
@@ -164,6 +173,10 @@ readLine l = lineOf (split tab l)
 abbrev pub timesFields : Times → List (List ℕ)
 timesFields x = digits (x .n .0) ∷ digits (x .d1 .0) ∷ digits (x .d2 .0) ∷ []
 
+abbrev pub lastFields : LastField → List (List ℕ)
+lastFields Absent = []
+lastFields (Given u) = digits (u .0) ∷ []
+
 unfoldable pub fieldsOf : Line → List (List ℕ)
 fieldsOf (OfTick t) = tickWord ∷ digits (t .0) ∷ []
 fieldsOf (OfServer s) =
@@ -172,7 +185,7 @@ fieldsOf (OfServer s) =
     ∷ kindWord (s .kind)
     ∷ digits (s .priority)
     ∷ digits (s .period .0)
-    ∷ timesFields (s .capacity)
+    ∷ (timesFields (s .capacity) ++ lastFields (s .phase))
 fieldsOf (OfTask k) =
     taskWord
     ∷ digits (k .home)

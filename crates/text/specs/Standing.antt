@@ -4,7 +4,7 @@
 -- line itself and one for each field: the place of the first that fails is the field told.
 use mathlib.Core.Bool.{Bool, true, false, not, _&&_}
 use mathlib.Core.List.{List, [], _∷_, _++_}
-use Prim.Native.Nat.{ℕ, _*_, _/_, _%_}
+use Prim.Native.Nat.{ℕ, _+_, _*_, _/_, _%_}
 use lib.Dec.{leb, ltb, eqb}
 use lib.ListN.{length}
 use Rattle.laws.specs.declared.Found.{Found}
@@ -24,6 +24,8 @@ use Rattle.table.specs.declared.Standing.the-variants.{Kept, Broken}
 use Rattle.table.specs.Rows.{Rows}
 use Rattle.table.specs.Rules.{tickKeeps, priorityKeeps, limitKeeps, taskFault}
 use Rattle.text.specs.declared.Times.{Times}
+use Rattle.text.specs.declared.LastField.{LastField}
+use Rattle.text.specs.declared.LastField.the-variants.{Absent, Given}
 use Rattle.text.specs.declared.ServerLine.{ServerLine}
 use Rattle.text.specs.declared.TaskLine.{TaskLine}
 use Rattle.text.specs.declared.Word.{Word}
@@ -42,6 +44,11 @@ isNil (x ∷ xs) = false
 abbrev pub inTicks : ℕ → Micros → Ticks
 inTicks t u = record { 0 = u .0 / t }
 
+-- 02, No. 7: "A row without the field has phase 0"
+abbrev pub phaseSaid : LastField → Micros
+phaseSaid Absent = record { 0 = 0 }
+phaseSaid (Given u) = u
+
 abbrev pub serverOf : ℕ → ServerLine → Server
 serverOf t s =
     record {
@@ -50,6 +57,7 @@ serverOf t s =
       priority = s .priority;
       period = inTicks t (s .period);
       capacity = record { n = inTicks t (s .capacity .n); d1 = inTicks t (s .capacity .d1); d2 = inTicks t (s .capacity .d2) };
+      phase = inTicks t (phaseSaid (s .phase));
     }
 
 -- "limits for N, D1, D2, each rounded up to a tick"
@@ -86,7 +94,8 @@ placed n a Unknown = false
 -- row too many in 2, is told first, as 0". "partition 0 to 15; kind; priority 1 to 255, greater
 -- first; period; capacities in N, D1, D2. Period 1 to 1,000,000 ticks, capacity 0 to the period,
 -- all whole ticks. These bounds are compared in microseconds." A capacity above the period is told
--- at the capacity: "the later where two fields disagree".
+-- at the capacity: "the later where two fields disagree". 02, No. 7: "a phase above the period less
+-- one tick, in microseconds, is 2".
 unfoldable pub serverBounds : ℕ → ℕ → ServerLine → List Bool
 serverBounds rows t s =
     ltb rows 32
@@ -97,6 +106,7 @@ serverBounds rows t s =
     ∷ leb (s .capacity .n .0) (s .period .0)
     ∷ leb (s .capacity .d1 .0) (s .period .0)
     ∷ leb (s .capacity .d2 .0) (s .period .0)
+    ∷ leb (phaseSaid (s .phase) .0 + t) (s .period .0)
     ∷ []
 
 -- "priority 1 to 255, greater first; level; limits for N, D1, D2, each rounded up to a tick, then 1
@@ -119,7 +129,7 @@ bounds a (OfServer s) = serverBounds (length (a .servers)) (a .tick .0) s
 bounds a (OfTask k) = taskBounds (length (a .tasks)) (a .tick .0) k
 bounds a (MalformedLine word field) = []
 
--- 3, "period or capacity not whole ticks"
+-- 3, "period or capacity not whole ticks"; 02, No. 7, of a phase: "not whole ticks is 3"
 abbrev pub whole : ℕ → Micros → Bool
 whole t u = eqb (u .0 % t) 0
 
@@ -133,6 +143,7 @@ serverWhole t s =
     ∷ whole t (s .capacity .n)
     ∷ whole t (s .capacity .d1)
     ∷ whole t (s .capacity .d2)
+    ∷ whole t (phaseSaid (s .phase))
     ∷ []
 
 unfoldable pub wholes : Rows → Line → List Bool

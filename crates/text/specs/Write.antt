@@ -1,11 +1,11 @@
 -- 01, Tables and Numbers for no: the text of a table's rows, and what the writer answers and leaves
 -- in the lent room.
-use mathlib.Core.Bool.{Bool, true, _&&_}
+use mathlib.Core.Bool.{Bool, true, not, _&&_}
 use mathlib.Core.List.{List, [], _∷_, _++_, map}
 use Prim.Native.Nat.{ℕ, _*_}
-use lib.Dec.{leb}
+use lib.Dec.{leb, eqb}
 use lib.ListN.{length, drop}
-use Rattle.laws.specs.Choice.{unless_say_else_, every}
+use Rattle.laws.specs.Choice.{if_then_else_, unless_say_else_, every}
 use Rattle.decimal.specs.Lines.{lineFeed, split, closed}
 use Rattle.units.specs.declared.Ticks.{Ticks}
 use Rattle.units.specs.declared.Micros.{Micros}
@@ -19,6 +19,8 @@ use Rattle.table.specs.Refusals.{numberOf}
 use Rattle.table.specs.Rows.{Rows, rowsOf}
 use Rattle.table.specs.Rules.{tableKeeps}
 use Rattle.text.specs.declared.Times.{Times}
+use Rattle.text.specs.declared.LastField.{LastField}
+use Rattle.text.specs.declared.LastField.the-variants.{Absent, Given}
 use Rattle.text.specs.declared.ServerLine.{ServerLine}
 use Rattle.text.specs.declared.TaskLine.{TaskLine}
 use Rattle.text.specs.declared.Line.{Line}
@@ -36,6 +38,10 @@ inMicros t x = record { 0 = x .0 * t }
 abbrev pub timesBack : ℕ → ByMode → Times
 timesBack t x = record { n = inMicros t (x .n); d1 = inMicros t (x .d1); d2 = inMicros t (x .d2) }
 
+-- 02, No. 7: at phase 0 "the writer then leaves the field out"
+abbrev pub phaseBack : ℕ → Ticks → LastField
+phaseBack t x = if eqb (x .0) 0 then Absent else Given (inMicros t x)
+
 abbrev pub serverBack : ℕ → Server → ServerLine
 serverBack t s =
     record {
@@ -44,6 +50,7 @@ serverBack t s =
       priority = s .priority;
       period = inMicros t (s .period);
       capacity = timesBack t (s .capacity);
+      phase = phaseBack t (s .phase);
     }
 
 abbrev pub taskBack : ℕ → Task → TaskLine
@@ -107,10 +114,25 @@ taskTimesWhole t (OfServer s) = true
 taskTimesWhole t (OfTask k) = every (whole t (k .limit .n) ∷ whole t (k .limit .d1) ∷ whole t (k .limit .d2) ∷ [])
 taskTimesWhole t (Malformed word field) = true
 
-unfoldable pub allTimesWhole : ℕ → List (List ℕ) → Bool
-allTimesWhole t [] = true
-allTimesWhole t (l ∷ ls) = taskTimesWhole t (readLine l) && allTimesWhole t ls
+-- what p asks of a line, asked of each
+unfoldable pub allLines : (Line → Bool) → List (List ℕ) → Bool
+allLines p [] = true
+allLines p (l ∷ ls) = p (readLine l) && allLines p ls
 
 -- of a text that is read to a table whose tick is t microseconds
 abbrev pub timesWhole : ℕ → List ℕ → Bool
-timesWhole t text = allTimesWhole t (split lineFeed text)
+timesWhole t text = allLines (taskTimesWhole t) (split lineFeed text)
+
+-- 02, No. 7: "so 01's rule on reading then writing also asks that no phase 0 was written"
+abbrev pub notZero : LastField → Bool
+notZero Absent = true
+notZero (Given u) = not (eqb (u .0) 0)
+
+abbrev pub phaseNotZero : Line → Bool
+phaseNotZero (OfTick u) = true
+phaseNotZero (OfServer s) = notZero (s .phase)
+phaseNotZero (OfTask k) = true
+phaseNotZero (Malformed word field) = true
+
+abbrev pub noPhaseZero : List ℕ → Bool
+noPhaseZero text = allLines phaseNotZero (split lineFeed text)

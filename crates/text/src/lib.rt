@@ -18,12 +18,19 @@ pub struct Times {
     pub d2: Micros,
 }
 
+// A last field that may be absent: a server's phase.
+pub enum LastField {
+    Absent,
+    Given(Micros),
+}
+
 pub struct ServerLine {
     pub partition: u64,
     pub kind: Kind,
     pub priority: u64,
     pub period: Micros,
     pub capacity: Times,
+    pub phase: LastField,
 }
 
 pub struct TaskLine {

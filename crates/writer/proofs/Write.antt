@@ -1,8 +1,8 @@
 -- The text of a table as the writer makes it, row by row, and what it leaves in the lent room.
 -- Assumes nothing.
-use mathlib.Core.Path.{_≡_, sym, ap}
+use mathlib.Core.Path.{_≡_, refl, sym, ap}
 use mathlib.Core.Bool.{true, false, _&&_}
-use mathlib.Core.List.{List, [], _∷_, _++_, map, map-append}
+use mathlib.Core.List.{List, [], _∷_, _++_, map, map-append, append-nil, append-assoc}
 use Prim.Native.Nat.{ℕ, _+_, _≤_, _<_}
 use native.Mathlib.Omega.{arith}
 use native.Mathlib.Numerals.{add-one}
@@ -11,9 +11,9 @@ use lib.Seq.{take-suc, take-at}
 use borrow.Author.Tests.{le-leb, lt-leb}
 use Rattle.laws.specs.Choice.{within}
 use Rattle.laws.proofs.Choice.{and-left, and-right, within-high}
-use Rattle.decimal.specs.Lines.{closed}
+use Rattle.decimal.specs.Lines.{tab, join, closed}
 use Rattle.decimal.specs.Room.{Put}
-use Rattle.decimal.proofs.Room.{put-as, put-fits, put-lines, put-none}
+use Rattle.decimal.proofs.Room.{put-as, put-fits, put-lines, put-more, put-none}
 use Rattle.table.specs.declared.Server.{Server}
 use Rattle.table.specs.declared.Task.{Task}
 use Rattle.table.specs.declared.Table.{Table}
@@ -44,6 +44,28 @@ few-tasks t e =
 
 pub short-tick : (t : Table) → tableKeeps t ≡ true → t .tick .0 ≤ 10000
 short-tick t e = keeps-rows (rowsOf t) (rows-keep t e) .good .high
+
+-- fields that follow others: those before them, and from a tab on
+join-behind : (b : ℕ) (p : List ℕ) (ps qs : List (List ℕ)) →
+    join b (p ∷ (ps ++ qs)) ≡ join b (p ∷ ps) ++ join b ([] ∷ qs)
+unfolding join
+join-behind b p [] [] = sym (append-nil p)
+join-behind b p [] (q ∷ qs) = refl
+join-behind b p (r ∷ ps) qs =
+    rw (join-behind b r ps qs) (sym (append-assoc p (b ∷ join b (r ∷ ps)) (join b ([] ∷ qs))))
+
+module _ {d : List ℕ} {at : ℕ} {e : List ℕ} {k : ℕ} {f : List ℕ} {r : ℕ} where
+  pub put-behind : (p : List ℕ) (ps qs : List (List ℕ)) → Put (join tab (p ∷ ps)) d at e k →
+      Put (join tab ([] ∷ qs)) e k f r → Put (join tab (p ∷ (ps ++ qs))) d at f r
+  put-behind p ps qs a b =
+      put-as (sym (join-behind tab p ps qs)) (put-more (join tab (p ∷ ps)) (join tab ([] ∷ qs)) a b)
+
+  -- a field with the tab after it, then those that follow
+  pub put-joined : (p q : List ℕ) (ps : List (List ℕ)) → Put (p ++ (tab ∷ [])) d at e k →
+      Put (join tab (q ∷ ps)) e k f r → Put (join tab (p ∷ (q ∷ ps))) d at f r
+  unfolding join
+  put-joined p q ps a b =
+      put-as (append-assoc p (tab ∷ []) (join tab (q ∷ ps))) (put-more (p ++ (tab ∷ [])) (join tab (q ∷ ps)) a b)
 
 -- one row more: f is a row's line
 lines-next : {A : Type 0} (f : A → Line) (z : A) (xs : List A) (i : ℕ) → i < length xs →

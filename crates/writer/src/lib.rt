@@ -12,6 +12,7 @@ use table::Server;
 use table::Table;
 use table::Task;
 use text::LONGEST_TEXT;
+use text::LastField;
 use text::Writing;
 use units::Micros;
 use units::Ticks;
@@ -26,8 +27,8 @@ ghost use Rattle.table.specs.Rows.{rowsOf};
 ghost use Rattle.table.specs.Rules.{tableKeeps};
 ghost use Rattle.text.specs.declared.Line.the-variants.{OfServer, OfTask};
 ghost use Rattle.text.specs.Words.{kindWord, levelWord};
-ghost use Rattle.text.specs.Line.{timesFields, writeLine};
-ghost use Rattle.text.specs.Write.{inMicros, timesBack, serverBack, taskBack, serverLines, taskLines, write, wrote};
+ghost use Rattle.text.specs.Line.{timesFields, lastFields, writeLine};
+ghost use Rattle.text.specs.Write.{inMicros, timesBack, phaseBack, serverBack, taskBack, serverLines, taskLines, write, wrote};
 
 // "text holds microseconds, a run holds ticks"
 fn in_micros(x: Ticks, tick: Micros) -> Micros
@@ -35,6 +36,18 @@ fn in_micros(x: Ticks, tick: Micros) -> Micros
     ensures { λ r. ⌜ r ≡ inMicros (tick .0) x ⌝ }
 {
     Micros(x.0 as u64 * tick.0)
+}
+
+// At phase 0 "the writer then leaves the field out".
+fn phase_back(x: Ticks, tick: Micros) -> LastField
+    requires { ⌜ tick .0 ≤ 10000 ⌝ }
+    ensures { λ r. ⌜ r ≡ phaseBack (tick .0) x ⌝ }
+{
+    if x.0 == 0 {
+        return LastField::Absent;
+    }
+    let u = in_micros(x, tick);
+    LastField::Given(u)
 }
 
 // A number and the tab after it.
@@ -72,12 +85,11 @@ fn put_time(x: Ticks, tick: Micros, room: &mut [u8], at: usize) -> usize
     put_field(u.0, room, at)
 }
 
-// The last three fields of a line, and the line feed that closes it.
+// A time for each mode, the last with no tab after it.
 fn put_times(x: ByMode, tick: Micros, room: &mut [u8], at: usize) -> usize
     requires { ⌜ tick .0 ≤ 10000 ⌝ }
     ensures { λ r. ⌜
-        Put (closed (join tab (timesFields (timesBack (tick .0) x)) ∷ []))
-        (now (room .entry)) at (now (room .exit)) r ⌝ }
+        Put (join tab (timesFields (timesBack (tick .0) x))) (now (room .entry)) at (now (room .exit)) r ⌝ }
 {
     let n = x.n;
     let d1 = x.d1;
@@ -85,8 +97,20 @@ fn put_times(x: ByMode, tick: Micros, room: &mut [u8], at: usize) -> usize
     let k = put_time(n, tick, room, at);
     let k = put_time(d1, tick, room, k);
     let u = in_micros(d2, tick);
-    let k = put_number(u.0, room, k);
-    put_byte(b'\n', room, k)
+    put_number(u.0, room, k)
+}
+
+// Behind the fields before it: a tab and the last field, or nothing where it is absent.
+fn put_last(last: LastField, room: &mut [u8], at: usize) -> usize
+    ensures { λ r. ⌜ Put (join tab ([] ∷ lastFields last)) (now (room .entry)) at (now (room .exit)) r ⌝ }
+{
+    match last {
+        LastField::Absent => at,
+        LastField::Given(u) => {
+            let k = put_byte(b'\t', room, at);
+            put_number(u.0, room, k)
+        }
+    }
 }
 
 fn put_server(s: Server, tick: Micros, room: &mut [u8], at: usize) -> usize
@@ -98,12 +122,15 @@ fn put_server(s: Server, tick: Micros, room: &mut [u8], at: usize) -> usize
     let kind = s.kind;
     let period = s.period;
     let capacity = s.capacity;
+    let last = phase_back(s.phase, tick);
     let k = put_all(b"server\t", room, at);
     let k = put_field(s.partition as u64, room, k);
     let k = put_kind(kind, room, k);
     let k = put_field(s.priority as u64, room, k);
     let k = put_time(period, tick, room, k);
-    put_times(capacity, tick, room, k)
+    let k = put_times(capacity, tick, room, k);
+    let k = put_last(last, room, k);
+    put_byte(b'\n', room, k)
 }
 
 fn put_task(x: Task, tick: Micros, room: &mut [u8], at: usize) -> usize
@@ -119,7 +146,8 @@ fn put_task(x: Task, tick: Micros, room: &mut [u8], at: usize) -> usize
     let k = put_field(x.degraded as u64, room, k);
     let k = put_field(x.priority as u64, room, k);
     let k = put_level(level, room, k);
-    put_times(limit, tick, room, k)
+    let k = put_times(limit, tick, room, k);
+    put_byte(b'\n', room, k)
 }
 
 fn put_servers(t: Table, room: &mut [u8], at: usize) -> usize

@@ -16,7 +16,7 @@ use Rattle.laws.specs.declared.Found.{Found}
 use Rattle.laws.specs.declared.Found.the-variants.{At, Nothing}
 use Rattle.laws.specs.Choice.{if_then_else_, every, within}
 use Rattle.laws.specs.Search.{firstFailed}
-use Rattle.laws.proofs.Choice.{and-left, and-right, if-ind, or-true-left, or-true-right, within-low, within-high, is-within}
+use Rattle.laws.proofs.Choice.{and-left, and-right, if-ind, or-true-left, or-true-right, within-high, is-within}
 use Rattle.laws.proofs.Search.{failed-none, failed-empty, failed-here, onePast, failed-past}
 use Rattle.decimal.specs.declared.Number.{Number}
 use Rattle.decimal.specs.declared.Number.the-variants.{Value, Bad}
@@ -29,6 +29,7 @@ use Rattle.decimal.proofs.Lines.{split-some}
 use Rattle.decimal.proofs.Inner.Fields.{end-taken, field-more, field-last, line-behind-tab}
 use Rattle.text.specs.Words.{eventWord, timedWord, loWord, miWord, hiWord}
 use Rattle.text.specs.Line.{Expected, aNumber, aKind, aLevel, fits, Form, fieldTests, formTests}
+use Rattle.text.proofs.Lines.{form-count}
 use Rattle.reader.specs.declared.fields.Fields.{Fields}
 use Rattle.reader.specs.Inner.Fields.{expectedOf, valueOf, readField, fieldAs, lineEnd, firstWrong, valueIn, noFields, noted, counted, telling, passed}
 
@@ -86,7 +87,7 @@ unfolding readField
 read-not e f h = rw h
 
 pub noted-by : (r : Fields) (k : ℕ) (n : Number) (w : Found) (v : ℕ) → w ≡ firstWrong (r .wrong) n (k + 1) →
-    v ≡ valueIn n → record { wrong = w; values = set (r .values) k v; end = r .end } ≡ noted r k n
+    v ≡ valueIn n → record { wrong = w; values = set (r .values) k v; count = k + 1; end = r .end } ≡ noted r k n
 noted-by r k n w v e f = rw (e, f)
 
 -- the pass, a field further
@@ -276,6 +277,17 @@ pass-value least (e ∷ es) k r (f ∷ (g ∷ fs)) a n l (suc i) h =
     (and-right (fits e f) (every (fieldTests es (g ∷ fs))) a) (omega arith)
     (omega (arith, length-set (r .values) k (valueIn (readField e f)))) i (omega arith))
 
+-- how many there are
+pass-count : (least : ℕ) (es : List Expected) (k : ℕ) (r : Fields) (fs : List (List ℕ)) →
+    0 < length fs → length fs ≤ length es → passed least es k r fs .count ≡ k + length fs
+unfolding passed
+pass-count least es k r [] h l = absurd (omega arith)
+pass-count least [] k r (f ∷ fs) h l = absurd (omega arith)
+pass-count least (e ∷ es) k r (f ∷ []) h l = refl
+pass-count least (e ∷ es) k r (f ∷ (g ∷ fs)) h l =
+    let q : k + 1 + length (g ∷ fs) ≡ k + length (f ∷ (g ∷ fs)) = omega arith in
+    pass-count least es (k + 1) (noted r k (readField e f)) (g ∷ fs) (omega arith) (omega arith) ∙ q
+
 -- the end of the line stays as it was
 pass-end : (least : ℕ) (es : List Expected) (k : ℕ) (r : Fields) (fs : List (List ℕ)) →
     passed least es k r fs .end ≡ r .end
@@ -286,7 +298,7 @@ pass-end least (e ∷ es) k r (f ∷ []) = refl
 pass-end least (e ∷ es) k r (f ∷ (g ∷ fs)) = pass-end least es (k + 1) (noted r k (readField e f)) (g ∷ fs)
 
 -- the fields of a form: the first that is wrong, 0 for their count, and where none is the number of
--- each
+-- each and how many there are
 module _ (form : Form) (fs : List (List ℕ)) (end : ℕ) where
   pub pass-ends : passed (form .least) (form .fields) 0 (noFields end) fs .end ≡ end
   pass-ends = pass-end (form .least) (form .fields) 0 (noFields end) fs
@@ -304,18 +316,21 @@ module _ (form : Form) (fs : List (List ℕ)) (end : ℕ) where
       go true bs = from-next 0 bs ∙ from-start (firstFailed (true ∷ bs))
       go false bs = from-here 0 bs ∙ from-start (firstFailed (false ∷ bs))
 
-  pub pass-values : firstFailed (formTests form fs) ≡ Nothing → length (form .fields) ≤ 7 →
-      (i : ℕ) → i < form .least →
+  pub pass-values : firstFailed (formTests form fs) ≡ Nothing → length (form .fields) ≤ 8 →
+      (i : ℕ) → i < length fs →
       getD (passed (form .least) (form .fields) 0 (noFields end) fs .values) i 0 ≡
       valueOf (getD (form .fields) i aNumber) (getD fs i [])
   unfolding formTests every
   pass-values w l i h =
-      let m = length (form .fields) in
-      let c = within (form .least) m (length fs) in
+      let c = within (form .least) (length (form .fields)) (length fs) in
       let t = every (fieldTests (form .fields) fs) in
       let a = failed-none (formTests form fs) .0 w in
-      let low = within-low (form .least) m (length fs) (and-left c t a) in
-      let high = within-high (form .least) m (length fs) (and-left c t a) in
       rw (zero-add i) at
-      (pass-value (form .least) (form .fields) 0 (noFields end) fs (and-right c t a) high (omega arith) i
-      (omega arith))
+      (pass-value (form .least) (form .fields) 0 (noFields end) fs (and-right c t a) (form-count form fs a .1)
+      (omega arith) i h)
+
+  pub pass-many : firstFailed (formTests form fs) ≡ Nothing → 0 < length fs →
+      passed (form .least) (form .fields) 0 (noFields end) fs .count ≡ length fs
+  pass-many w h =
+      let a = failed-none (formTests form fs) .0 w in
+      pass-count (form .least) (form .fields) 0 (noFields end) fs h (form-count form fs a .1) ∙ zero-add (length fs)

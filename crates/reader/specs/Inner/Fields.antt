@@ -1,6 +1,6 @@
 -- Only contracts of inner functions cite this file; a buyer need not read it. It says what one pass
 -- over the fields of a line finds: the first field that is not as it should be, the number of each,
--- and where the line ends.
+-- how many there are, and where the line ends.
 use mathlib.Core.List.{List, [], _∷_, map}
 use Prim.Native.Nat.{ℕ, _+_}
 use lib.Dec.{ltb, eqb}
@@ -18,6 +18,8 @@ use Rattle.table.specs.declared.Kind.{Kind}
 use Rattle.table.specs.declared.Kind.the-variants.{Event, Timed}
 use Rattle.table.specs.declared.Level.{Level}
 use Rattle.table.specs.declared.Level.the-variants.{LO, MI, HI}
+use Rattle.text.specs.declared.LastField.{LastField}
+use Rattle.text.specs.declared.LastField.the-variants.{Absent, Given}
 use Rattle.text.specs.Words.{timedWord, miWord, hiWord}
 use Rattle.text.specs.Line.{Expected, aNumber, aKind, aLevel, fits}
 use Rattle.reader.specs.declared.fields.Fields.{Fields}
@@ -38,6 +40,10 @@ kindAt v = if eqb v 1 then Timed else Event
 
 abbrev pub levelAt : ℕ → Level
 levelAt v = if eqb v 2 then HI else if eqb v 1 then MI else LO
+
+-- field k, the last of its form, of a line of so many fields; its number is v
+abbrev pub lastOf : ℕ → ℕ → ℕ → LastField
+lastOf count k v = if ltb count k then Absent else Given (record { 0 = v })
 
 unfoldable pub readField : Expected → List ℕ → Number
 readField e f = if fits e f then Value (valueOf e f) else Bad
@@ -62,12 +68,17 @@ valueIn Bad = 0
 
 -- nothing is told yet of a line that ends at a place
 abbrev pub noFields : ℕ → Fields
-noFields end = record { wrong = Nothing; values = replicate 7 0; end = end }
+noFields end = record { wrong = Nothing; values = replicate 8 0; count = 0; end = end }
 
 -- with field k, from 0, as it was read
 abbrev pub noted : Fields → ℕ → Number → Fields
 noted r k n =
-    record { wrong = firstWrong (r .wrong) n (k + 1); values = set (r .values) k (valueIn n); end = r .end }
+    record {
+      wrong = firstWrong (r .wrong) n (k + 1);
+      values = set (r .values) k (valueIn n);
+      count = k + 1;
+      end = r .end;
+    }
 
 -- the line ends after n fields: too few are told before any field
 abbrev pub counted : ℕ → ℕ → Found → Found
@@ -75,7 +86,7 @@ counted least n wrong = if ltb n least then At 0 else wrong
 
 -- another place told, and all else as it was
 abbrev pub telling : Found → Fields → Fields
-telling wrong r = record { wrong = wrong; values = r .values; end = r .end }
+telling wrong r = record { wrong = wrong; values = r .values; count = r .count; end = r .end }
 
 -- From field k on, r being what the fields before it gave; too many are told before any field.
 -- (There is always a field.)

@@ -8,11 +8,12 @@ use mathlib.Core.Logic.{_⊎_, inl, inr}
 use Prim.Native.Nat.{ℕ, zero, suc, _+_, _≤_, _<_}
 use native.Mathlib.Omega.{arith}
 use native.Mathlib.Nat.{min-le-right}
-use lib.Dec.{ltb, eqb}
+use lib.Dec.{leb, ltb, eqb}
 use lib.ListN.{length, getD, set, take, drop, replicate, getD-replicate, length-take, take-append-drop}
 use lib.Seq.{getD-set-same, getD-set-other, getD-take, length-take-le, ext-getD}
 use borrow.Author.Tests.{lt-ltb, ltb-true, ltb-false, eq-eqb, ne-eqb}
 use Rattle.laws.specs.declared.Found.the-variants.{At}
+use Rattle.laws.specs.Choice.{if_then_else_}
 use Rattle.laws.specs.Rows.{anyBelow, highest, anew, foundBy}
 use Rattle.laws.proofs.Anew.{length-anew, anew-at}
 use Rattle.laws.proofs.Choice.{and-left, and-right, and-true}
@@ -26,13 +27,13 @@ use Rattle.table.proofs.Rules.{TableRules}
 use Rattle.run.specs.declared.State.{State}
 use Rattle.events.specs.declared.Turn.the-variants.{Idle}
 use Rattle.run.specs.Found.{topPriority, priorityFound}
-use Rattle.run.specs.State.{usedAt, waitingAt, owner, waitsFor, waits}
+use Rattle.run.specs.State.{usedAt, inForce, waitingAt, owner, waitsFor, waits}
 use Rattle.queues.specs.Queues.{turnOf}
 use Rattle.run.specs.Tick.{able, highestAble, highestTask, choose}
 use Rattle.events.proofs.Answers.{same-or-not}
 use Rattle.scheduler.specs.Inner.Columns.{ServersOn}
 use Rattle.scheduler.specs.Inner.Choose.{capacityColumn, withTops}
-use Rattle.scheduler.proofs.Inner.Columns.{timed-on, capacity-on}
+use Rattle.scheduler.proofs.Inner.Columns.{timed-on, capacity-on, phase-on}
 
 -- what is found has the servers' places; and it is known by the numbers in them
 pub places-there : (f : List ℕ) → take 32 f ≡ replicate 32 0 → 32 ≤ length f
@@ -152,13 +153,20 @@ module _ (t : Table) (s : State) where
   unfolding highestTask waits
   waits-found i height row e = found-some (waitsFor t s i) (taskPriorityAt t) (t .ntasks) height row e
 
-  -- the test of the walk over servers: a capacity and a kind's number from the sheet, and what the
-  -- first walk found
-  pub able-is : (xs : List ℕ) (i c k w : ℕ) → ServersOn t xs → i < t .nservers →
-      c ≡ getD xs (capacityColumn (s .mode) + i) 0 → k ≡ getD xs (32 + i) 0 → ltb 0 w ≡ waits t s i →
-      (ltb (usedAt s i) c && (not (eqb k 0) || ltb 0 w)) ≡ able t s i
+  -- a capacity and a phase from the sheet, and the ticks taken: the capacity in force
+  pub force-is : (xs : List ℕ) (i c p : ℕ) → ServersOn t xs → i < t .nservers →
+      c ≡ getD xs (capacityColumn (s .mode) + i) 0 → p ≡ getD xs (192 + i) 0 →
+      (if leb p (s .ticks .0) then c else 0) ≡ inForce t s i
+  unfolding inForce
+  force-is xs i c p o h e f = rw (e, f, capacity-on t xs o i h (s .mode), phase-on t xs o i h)
+
+  -- the test of the walk over servers: the capacity in force, a kind's number from the sheet, and
+  -- what the first walk found
+  pub able-is : (xs : List ℕ) (i b k w : ℕ) → ServersOn t xs → i < t .nservers → b ≡ inForce t s i →
+      k ≡ getD xs (32 + i) 0 → ltb 0 w ≡ waits t s i →
+      (ltb (usedAt s i) b && (not (eqb k 0) || ltb 0 w)) ≡ able t s i
   unfolding able
-  able-is xs i c k w p h e f g = rw (e, f, capacity-on t xs p i h (s .mode), timed-on t xs p i h, g)
+  able-is xs i b k w p h e f g = rw (e, f, timed-on t xs p i h, g)
 
   pub able-found : (height row : ℕ) → Top (t .nservers) (able t s) (priorityAt t) height row →
       foundBy height row ≡ highestAble t s

@@ -19,7 +19,7 @@ use Rattle.table.specs.declared.Level.the-variants.{LO, MI, HI}
 use Rattle.table.specs.declared.Mode.{Mode}
 use Rattle.table.specs.declared.Mode.the-variants.{N, D1, D2}
 use Rattle.table.specs.declared.Table.{Table}
-use Rattle.table.specs.Rows.{serverAt, taskAt, capacityAt, isTimed, isLow}
+use Rattle.table.specs.Rows.{serverAt, taskAt, capacityAt, phaseAt, isTimed, isLow}
 use Rattle.run.specs.State.{owner}
 use Rattle.run.specs.Tick.{height}
 use Rattle.events.proofs.Answers.{same-or-not}
@@ -121,6 +121,9 @@ module _ (t : Table) (xs : List ℕ) (p : ServersOn t xs) (i : ℕ) (h : i < t .
   capacity-on N = p 3 i (lit< tt) h
   capacity-on D1 = p 4 i (lit< tt) h
   capacity-on D2 = p 5 i (lit< tt) h
+
+  pub phase-on : getD xs (192 + i) 0 ≡ phaseAt t i
+  phase-on = p 6 i (lit< tt) h
 
 module _ (t : Table) (xs : List ℕ) (p : TasksOn t xs) (k : ℕ) (h : k < t .ntasks) where
   pub owner-on : (m : Mode) → getD xs (ownerColumn m + k) 0 ≡ owner m (taskAt t k)

@@ -40,7 +40,7 @@ use Rattle.run.proofs.Shape.{Shaped}
 use Rattle.run.proofs.Sound.{StateSound, sound-table, sound-state}
 use Rattle.run.proofs.Steps.{settled-row}
 use Rattle.events.proofs.Answers.{one-same}
-use Rattle.run.proofs.Tick.{charged-able, able-room, ran-front, elapsed-settled}
+use Rattle.run.proofs.Tick.{charged-able, able-room, force-low, ran-front, elapsed-settled}
 use Rattle.scheduler.specs.declared.parts.Head.{Head}
 use Rattle.scheduler.specs.declared.settle.Settling.{Settling}
 use Rattle.scheduler.specs.Inner.Parts.{stateOf, runOf, headOf, atMode}
@@ -160,7 +160,7 @@ event-unsound r (Tick mark) q = tick-unsound r mark q
 -- A run with the head and the sheets of its parts is one that a step takes.
 pub sound-run : (t : Table) (s : State) (h : Head) (ss ks : List ℕ) → h ≡ headOf t s →
     sound (record { table = t; state = s }) ≡ true → Shaped s →
-    (length (t .servers) ≡ 32) × OnSheet 32 6 (λ i. serverCells (getD (t .servers) i noServer)) 32 ss →
+    (length (t .servers) ≡ 32) × OnSheet 32 7 (λ i. serverCells (getD (t .servers) i noServer)) 32 ss →
     (length (t .tasks) ≡ 64) × OnSheet 64 7 (λ k. taskCells (getD (t .tasks) k noTask)) 64 ks →
     SoundRun t h ss ks (s .used) (s .elapsed) (s .waiting) (s .runs)
 sound-run t s h ss ks q e l p g =
@@ -236,7 +236,7 @@ module _ (t : Table) (s : State) (mark : Bool) (r : TableRules t) (h : Shaped s)
       let a = charged-able t z i e in
       let x = r .server i (a .0) in (
         omega (arith, a .0, r .servers-high),
-        omega (arith, able-room t z i (a .1), x .capacity (z .mode), x .period-high),
+        omega (arith, able-room t z i (a .1), force-low t z i, x .capacity (z .mode), x .period-high),
       )
 
   charge-fits : (z : State) (turn : Turn) → turn ≡ choose t z → ChargeFits turn (z .used)

@@ -2,18 +2,15 @@
 use mathlib.Core.Path.{_≡_, refl, sym, ap, _∙_}
 use mathlib.Core.Bool.{Bool, true, false}
 use mathlib.Core.List.{List, [], _∷_, _++_}
-use mathlib.Core.Logic.{_⊎_, inl, inr}
 use Prim.Native.Nat.{ℕ, zero, suc, _+_, _-_, _≤_, _<_}
 use native.Mathlib.Omega.{arith}
 use native.Mathlib.Nat.{add-zero, zero-add, suc-add}
-use lib.Dec.{eqb}
-use lib.ListN.{length, getD, set, length-set, replicate, getD-replicate}
-use lib.Seq.{ext-getD, getD-set-same, getD-set-other}
+use lib.Dec.{leb, eqb}
+use lib.ListN.{length, getD, set, replicate, getD-replicate}
 use borrow.Author.Tests.{ltb-true}
 use Rattle.laws.specs.Choice.{if_then_else_}
 use Rattle.laws.specs.Rows.{anew, anyBelow, sumBelow}
-use Rattle.laws.proofs.Choice.{le-or-lt}
-use Rattle.laws.proofs.Anew.{length-anew, anew-at, anew-past, anew-cong, anew-same, anew-row, anew-put, anew-stay}
+use Rattle.laws.proofs.Anew.{anew-cong, anew-same, anew-row, anew-put, anew-stay}
 use Rattle.laws.proofs.Rows.{sum-next, sum-cong, sum-zero}
 use Rattle.table.specs.declared.ByMode.{ByMode}
 use Rattle.table.specs.declared.Level.{Level}
@@ -28,16 +25,15 @@ use Rattle.events.specs.declared.Left.the-variants.{Nobody, Done, Cut}
 use Rattle.run.specs.declared.State.{State}
 use Rattle.events.specs.declared.Turn.{Turn}
 use Rattle.events.specs.declared.Turn.the-variants.{Run as Ran, Empty, Idle}
-use Rattle.events.specs.Answers.{one}
-use Rattle.run.specs.State.{someWaits, withMode}
+use Rattle.run.specs.State.{passes, someWaits, withMode}
 use Rattle.run.specs.Tick.{height, countsAs, raises, raised, judge, step1, enters, drops, discards, step2, step3, step4, settle, step5, step6, step7, advance}
 use Rattle.run.proofs.Judge.{below-limit, raises-mode, is-cut, height-at-most, Enough, enough-raised}
 use Rattle.queues.proofs.Queues.{anew-one, unchanged}
 use Rattle.scheduler.specs.declared.parts.Head.{Head}
 use Rattle.scheduler.specs.Inner.Parts.{lastIn, stateOf, atMode}
 use Rattle.scheduler.specs.Inner.Steps.{Judges, noneFound, keptOf, goneOf, notedOf, Discards, waitsAt, isN}
-use Rattle.scheduler.specs.Inner.Steps.{SettlesMode, Refills, Charges, afterRun, later, RunsFront, Ages}
-use Rattle.scheduler.proofs.Inner.Columns.{low-on, period-on}
+use Rattle.scheduler.specs.Inner.Steps.{SettlesMode, Refills, Charges, afterRun, RunsFront, Ages}
+use Rattle.scheduler.proofs.Inner.Columns.{low-on, period-on, phase-on}
 
 -- Step 1: a job that was judged from mode m₀ on is still to be judged in mode m.
 abbrev pub StillJudged : ByMode → Level → ℕ → Mode → Mode → Type 0
@@ -254,8 +250,22 @@ runs-empty i xs t h u e w l = ap (λ x. stateOf (afterRun h (Empty i)) u e w x) 
 pub runs-idle : (xs : List ℕ) → RunsFront Idle xs xs
 runs-idle xs t h u e w l = ap (λ x. stateOf (afterRun h Idle) u e w x) (unchanged (t .ntasks) xs)
 
-pub ages-is : (n : ℕ) (xs ys : List ℕ) → ys ≡ anew n (λ i e. e + 1) xs → Ages n xs ys
-ages-is n xs ys q t h u w c m = ap (λ x. stateOf (later h) u x w c) (ap (λ k. anew k (λ i e. e + 1) xs) (sym m) ∙ sym q)
+-- Step 7: a row ages exactly if it has started.
+abbrev pub aged : List ℕ → ℕ → ℕ → ℕ → ℕ
+aged ss ticks i x = x + (if leb (getD ss (192 + i) 0) ticks then 1 else 0)
+
+pub passing-most : (phase ticks n : ℕ) → n ≡ (if leb phase ticks then 1 else 0) → n ≤ 1
+passing-most phase ticks n e = go (leb phase ticks) e
+  where
+    go : (b : Bool) → n ≡ (if b then 1 else 0) → n ≤ 1
+    go true q = omega arith
+    go false q = omega arith
+
+pub ages-is : (n ticks : ℕ) (ss xs ys : List ℕ) → ys ≡ anew n (aged ss ticks) xs → Ages n ticks ss xs ys
+ages-is n ticks ss xs ys q t h u w c p m e =
+    let f : ℕ → ℕ → ℕ = λ i x. x + passes t (stateOf h u xs w c) i in
+    let same : (i x : ℕ) → i < t .nservers → aged ss ticks i x ≡ f i x = λ i x l. rw (phase-on t ss p i l, e) in
+    rw (q, m, anew-cong (t .nservers) (aged ss ticks) f xs same)
 
 pub advance-is : (t : Table) (turn : Turn) (s s₁ s₂ z : State) → step5 t s turn ≡ s₁ → step6 t s₁ turn ≡ s₂ →
     step7 t s₂ ≡ z → advance t s turn ≡ z

@@ -32,6 +32,7 @@ serverCells s =
     ∷ s .capacity .n .0
     ∷ s .capacity .d1 .0
     ∷ s .capacity .d2 .0
+    ∷ s .phase .0
     ∷ []
 
 abbrev pub taskCells : Task → List ℕ
@@ -56,7 +57,7 @@ OnSheet w m cells n sheet = (c i : ℕ) → c < m → i < n → getD sheet (c * 
 
 -- the rows in use of a table
 abbrev pub ServersOn : Table → List ℕ → Type 0
-ServersOn t = OnSheet 32 6 (λ i. serverCells (serverAt t i)) (t .nservers)
+ServersOn t = OnSheet 32 7 (λ i. serverCells (serverAt t i)) (t .nservers)
 
 abbrev pub TasksOn : Table → List ℕ → Type 0
 TasksOn t = OnSheet 64 7 (λ k. taskCells (taskAt t k)) (t .ntasks)

@@ -170,9 +170,11 @@ RunsFront turn c c′ =
     (t : Table) (h : Head) (u e w : List ℕ) → TaskIn t turn →
     step6 t (stateOf h u e w c) turn ≡ stateOf (afterRun h turn) u e w c′
 
-abbrev pub Ages : ℕ → List ℕ → List ℕ → Type 0
-Ages n e e′ =
-    (t : Table) (h : Head) (u w c : List ℕ) → n ≡ t .nservers → step7 t (stateOf h u e w c) ≡ stateOf (later h) u e′ w c
+-- of n servers, at the tick after so many
+abbrev pub Ages : ℕ → ℕ → List ℕ → List ℕ → List ℕ → Type 0
+Ages n ticks servers e e′ =
+    (t : Table) (h : Head) (u w c : List ℕ) → ServersOn t servers → n ≡ t .nservers → ticks ≡ h .ticks .0 →
+    step7 t (stateOf h u e w c) ≡ stateOf (later h) u e′ w c
 
 pub record CountsFit (h : Head) (turn : Turn) (u e c : List ℕ) : Type 0 where
   pub servers : h .nservers ≤ 32
@@ -181,8 +183,8 @@ pub record CountsFit (h : Head) (turn : Turn) (u e c : List ℕ) : Type 0 where
   pub elapsed : Low (h .nservers) e
   pub ticks : h .ticks .0 < 4000000000
 
-abbrev pub Advances : Head → Turn → List ℕ → List ℕ → List ℕ → List ℕ → List ℕ → List ℕ → Head → Type 0
-Advances h turn u e c u′ e′ c′ r =
+abbrev pub Advances : Head → Turn → List ℕ → List ℕ → List ℕ → List ℕ → List ℕ → List ℕ → List ℕ → Head → Type 0
+Advances h turn servers u e c u′ e′ c′ r =
     (r ≡ later (afterRun h turn))
-    × ((t : Table) (w : List ℕ) → ServerIn t turn → TaskIn t turn → h .nservers ≡ t .nservers →
+    × ((t : Table) (w : List ℕ) → ServersOn t servers → ServerIn t turn → TaskIn t turn → h .nservers ≡ t .nservers →
     advance t (stateOf h u e w c) turn ≡ stateOf r u′ e′ w c′)

@@ -7,8 +7,10 @@ use Rattle.soundness.proofs.server_sound.Tie as tie
 
 returns : tie.Need-returns
 unfolding serverTests
-returns c = rw (c .all-of .ensures, c .before .before .before .largest-of .ensures)
+returns c =
+    let b = c .before .before .before in
+    rw (c .all-of .ensures, b .unused-before .ensures, b .before .largest-of .ensures)
 
 pub server-sound-spec : {M : Type 1} → statement M
 server-sound-spec =
-    tie.close (tie.spec (λ c κs. search needs) (λ c. search needs) (λ c κs. search needs) returns)
+    tie.close (tie.spec (λ c κs. search needs) (λ c κs. search needs) (λ c. search needs) (λ c κs. search needs) returns)

@@ -1,7 +1,8 @@
 -- `writer::put_task` meets its contract: the line field by field. Assumes nothing.
 use mathlib.Core.List.{[], _∷_}
 use Rattle.decimal.specs.Number.{digits}
-use Rattle.decimal.proofs.Room.{put-field}
+use Rattle.decimal.specs.Lines.{tab, join}
+use Rattle.decimal.proofs.Room.{put-field, put-last, put-length}
 use Rattle.text.specs.Words.{taskWord, levelWord}
 use Rattle.text.specs.Line.{fieldAt, timesFields, fieldsOf, writeLine}
 use Rattle.text.specs.Write.{taskBack}
@@ -17,9 +18,10 @@ put-times-requires c κs =
     w .before .before .before .before .before .pre
 
 returns : tie.Need-returns
-unfolding writeLine fieldsOf taskWord
+unfolding writeLine fieldsOf taskWord join
 returns c =
-    let x = c .before .before in
+    let b = c .before .before in
+    let x = b .before .before .before .before in
     let v = x .before .before .before .before in
     let p = v .before .before .before .before in
     let g = p .before .before .before .before .before in
@@ -35,11 +37,14 @@ returns c =
     (put-field (digits (s .degraded)) (digits (s .priority)) vs (g .put-field2 .ensures)
     (put-field (digits (s .priority)) (levelWord (s .level)) xs (p .put-field3 .ensures)
     (put-field (levelWord (s .level)) (fieldAt xs 1) (fieldAt xs 2 ∷ fieldAt xs 3 ∷ []) (v .put-level .ensures)
-    (x .put-times .ensures)))))
+    (put-last (join tab xs) (x .put-times .ensures) (b .put-byte .ensures))))))
+
+same-length : tie.Need-same-length
+same-length c = put-length _ (returns c)
 
 pub put-task-spec : {M : Type 1} → statement M
 put-task-spec =
     tie.close
     (tie.spec (λ c. search needs) (λ c κs. search needs) (λ c. search needs) (λ c κs. search needs)
     (λ c. search needs) (λ c κs. search needs) (λ c. search needs) (λ c κs. search needs)
-    (λ c κs. search needs) put-times-requires (λ c. search needs) returns)
+    (λ c κs. search needs) put-times-requires (λ c κs. search needs) same-length returns)

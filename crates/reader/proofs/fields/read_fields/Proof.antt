@@ -21,7 +21,7 @@ Inv-loop text from shape least values₀ wrong₀ at₀ k₀ k-end values wrong 
     × (at ≤ length text)
     × (fieldsPassed least shape text from ≡
     passed least (map expectedOf (drop k shape)) k
-    (record { wrong = wrong; values = values; end = lineEnd text from }) (fieldsFrom text at))
+    (record { wrong = wrong; values = values; count = k; end = lineEnd text from }) (fieldsFrom text at))
     × (lineEnd text from ≡ lineEnd text at)
 
 abbrev μ-loop : tie.MeasureT-loop
@@ -35,7 +35,7 @@ abbrev before : (c : tie.After-read-field Inv-loop μ-loop) → Fields
 before c =
     let l = c .before .before .before .loop in
     let a = c .before .before .before .before .before .before .args in
-    record { wrong = l .wrong; values = l .values; end = lineEnd (a .text .now) (a .from) }
+    record { wrong = l .wrong; values = l .values; count = l .k; end = lineEnd (a .text .now) (a .from) }
 
 with-it : (c : tie.After-first-wrong Inv-loop μ-loop) →
     let r = c .before .before in
@@ -43,6 +43,7 @@ with-it : (c : tie.After-first-wrong Inv-loop μ-loop) →
     record {
       wrong = c .first-wrong .result;
       values = set (l .values) (l .k) (c .before .value-in .result);
+      count = l .k + 1;
       end = before r .end;
     } ≡ noted (before r) (l .k) (r .read-field .result .number)
 with-it c =
@@ -107,9 +108,10 @@ returns-2 c =
     let l = c .before .before .loop in
     let a = c .before .before .before .before .before .args in
     let ends = line-found (a .text .now) (l .at) (c .find .result) (c .find .ensures .0) (l .inv .1) (c .find .ensures .1) in
-    rw (sym (l .inv .3 ∙ ends))
+    let all : length (a .shape .now) ≡ l .k = omega arith in
+    rw (all, sym (l .inv .3 ∙ ends))
     (pass-over (a .least) (a .text .now) (a .shape .now) (l .k) (l .at)
-    (record { wrong = l .wrong; values = l .values; end = lineEnd (a .text .now) (a .from) }) (omega arith)
+    (record { wrong = l .wrong; values = l .values; count = l .k; end = lineEnd (a .text .now) (a .from) }) (omega arith)
     ∙ sym (l .inv .2))
 
 pub read-fields-spec : {M : Type 1} → statement M
@@ -117,6 +119,6 @@ read-fields-spec =
     tie.close
     (tie.spec Inv-loop μ-loop loop-holds (search needs) (search needs) (search needs)
     (λ c. record { fits = omega arith }) (λ c. omega arith) (search needs) (search needs)
-    (search needs) (search needs) returns
+    (search needs) (search needs) (search needs) returns
     (λ c. record { fits = omega (arith, onward (c .before)) }) (search needs) (search needs) loop-again
     (λ c κs. (omega arith, omega arith)) returns-2)

@@ -21,16 +21,17 @@ returns c =
 returns-2 : tie.Need-returns-2
 unfolding serverForm lineBy
 returns-2 c =
-    let e = c .before .before in
+    let k = c .before in
+    let e = k .before .before in
     let r = e .before .before in
     let a = r .before .before .before .args in
     lined serverForm (a .text .now) (a .from) (r .read-fields .result) (r .read-fields .ensures) _ _
-    (server-read (a .text .now) (a .from) (r .read-fields .result) (c .kind-at .result) (c .kind-at .ensures)
-    (r .read-fields .ensures) (e .enum-told .given .1))
+    (server-read (a .text .now) (a .from) (r .read-fields .result) (k .kind-at .result) (c .last-at .result)
+    (k .kind-at .ensures) (c .last-at .ensures) (r .read-fields .ensures) (e .enum-told .given .1))
 
 pub server-line-spec : {M : Type 1} → statement M
 server-line-spec =
     tie.close
     (tie.spec (λ c. refl) (search needs) (search needs) returns (search needs) (search needs)
-    (λ c κs. tt) (search needs) (search needs) (search needs) (search needs) (search needs)
-    (search needs) returns-2)
+    (λ c κs. tt) (search needs) (λ c κs. tt) (search needs) (search needs) (search needs)
+    (search needs) (search needs) (search needs) returns-2)

@@ -27,12 +27,12 @@ returns c =
     let x = f .run-front .last .1 .0 in
     rw (c .after-run .ensures) (
       refl,
-      λ t w i k n.
+      λ t w on i k n.
           advance-is t (a .turn) (stateOf (a .h) (a .used .now) (a .elapsed .now) w (a .runs .now))
           (stateOf (a .h) u (a .elapsed .now) w (a .runs .now)) (stateOf (afterRun (a .h) (a .turn)) u (a .elapsed .now) w x) _
           (q .charge .ensures t (a .h) (a .elapsed .now) w (a .runs .now) i)
           (f .run-front .ensures t (a .h) u (a .elapsed .now) w k)
-          (g .age .ensures t (afterRun (a .h) (a .turn)) u w x n),
+          (g .age .ensures t (afterRun (a .h) (a .turn)) u w x on n refl),
     )
 
 pub advance-spec : {M : Type 1} → statement M

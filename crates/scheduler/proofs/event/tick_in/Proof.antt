@@ -139,7 +139,7 @@ returns-3 c =
     (asked (m .before) ∙ not-false _ (m .if1 .left)) (count-low z .if2 .left) (after z) _
     (z .settle .result .left) (z .settle .result .discarded) turn (g .state) (g .left)
     (g .count) (o .0)
-    (c .advance .ensures .1 t (w′ z) (server-in t (after z) turn (o .0)) (task-in t (after z) turn (o .0))
+    (c .advance .ensures .1 t (w′ z) (p .shows .servers) (server-in t (after z) turn (o .0)) (task-in t (after z) turn (o .0))
     (n .servers)) in
     record {
       answers =

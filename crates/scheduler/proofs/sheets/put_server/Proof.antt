@@ -6,13 +6,15 @@ use Rattle.scheduler.proofs.sheets.put_server.Tie as tie
 
 returns : tie.Need-returns
 returns c =
-    let c₅ = c .before .before in
+    let c₆ = c .before .before in
+    let c₅ = c₆ .before .before in
     let c₄ = c₅ .before .before in
     let c₃ = c₄ .before .before in
     let c₂ = c₃ .before .before in
     let c₁ = c₂ .before .before in
     rw (
-      c .put-server-cell6 .ensures,
+      c .put-server-cell7 .ensures,
+      c₆ .put-server-cell6 .ensures,
       c₅ .put-server-cell5 .ensures,
       c₄ .put-server-cell4 .ensures,
       c₃ .put-server-cell3 .ensures,
@@ -25,4 +27,5 @@ pub put-server-spec : {M : Type 1} → statement M
 put-server-spec =
     tie.close
     (tie.spec (λ c κs. tt) (λ c. search needs) (λ c κs. omega arith) (λ c κs. omega arith)
-    (λ c κs. omega arith) (λ c κs. omega arith) (λ c κs. omega arith) (λ c κs. omega arith) returns)
+    (λ c κs. omega arith) (λ c κs. omega arith) (λ c κs. omega arith) (λ c κs. omega arith)
+    (λ c κs. omega arith) returns)

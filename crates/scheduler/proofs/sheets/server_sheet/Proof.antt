@@ -11,7 +11,7 @@ use Rattle.scheduler.proofs.sheets.server_sheet.Statement.{statement}
 use Rattle.scheduler.proofs.sheets.server_sheet.Tie as tie
 
 abbrev Inv-loop : tie.InvT-loop
-Inv-loop servers sheet₀ i₀ sheet i = (i ≤ 32) × Filled 32 6 (λ j. serverCells (getD servers j noServer)) i sheet
+Inv-loop servers sheet₀ i₀ sheet i = (i ≤ 32) × Filled 32 7 (λ j. serverCells (getD servers j noServer)) i sheet
 
 abbrev μ-loop : tie.MeasureT-loop
 μ-loop servers sheet₀ i₀ sheet i = 32 - i
@@ -24,7 +24,7 @@ loop-again c =
     let l = c .before .before .before .before .loop in
     let a = c .before .before .before .before .before .args in (
       omega arith,
-      filled-more 32 6 (λ j. serverCells (getD (a .t1) j noServer)) (l .i) (l .sheet) _
+      filled-more 32 7 (λ j. serverCells (getD (a .t1) j noServer)) (l .i) (l .sheet) _
           (c .before .before .before .loop-test .taken) refl (c .put-server .ensures) (l .inv .1),
     )
 

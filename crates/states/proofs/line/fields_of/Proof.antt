@@ -7,10 +7,10 @@ use Rattle.states.proofs.line.fields_of.Statement.{statement}
 use Rattle.states.proofs.line.fields_of.Tie as tie
 
 abbrev Inv-loop : tie.InvT-loop
-Inv-loop line values₀ at₀ k₀ values at k = (k ≤ 8) × (at ≤ length line)
+Inv-loop line values₀ at₀ k₀ values at k = (k ≤ 9) × (at ≤ length line)
 
 abbrev μ-loop : tie.MeasureT-loop
-μ-loop line values₀ at₀ k₀ values at k = 8 - k
+μ-loop line values₀ at₀ k₀ values at k = 9 - k
 
 pub fields-of-spec : {M : Type 1} → statement M
 fields-of-spec =

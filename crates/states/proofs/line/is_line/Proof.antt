@@ -8,7 +8,7 @@ use Rattle.states.proofs.line.is_line.Statement.{statement}
 use Rattle.states.proofs.line.is_line.Tie as tie
 
 abbrev Inv-loop : tie.InvT-loop
-Inv-loop word wanted most v k₀ k-end k = (k ≤ k-end) × (k-end ≡ length most) × (length most ≤ 7)
+Inv-loop word wanted most v k₀ k-end k = (k ≤ k-end) × (k-end ≡ length most) × (length most ≤ 8)
 
 abbrev μ-loop : tie.MeasureT-loop
 μ-loop word wanted most v k₀ k-end k = k-end - k
