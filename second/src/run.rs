@@ -155,6 +155,7 @@ impl Run {
             budget.elapsed <= server.period
                 && budget.used <= budget.elapsed
                 && budget.used <= server.largest_capacity()
+                && (server.has_started(self.ticks) || *budget == Budget::default())
         })
     }
 
@@ -230,8 +231,10 @@ impl Run {
 
         // Step 7.
         let tick = self.ticks;
-        for budget in &mut self.budgets {
-            budget.elapsed += 1;
+        for (server, budget) in self.table.servers.iter().zip(&mut self.budgets) {
+            if server.has_started(tick) {
+                budget.elapsed += 1;
+            }
         }
         self.ticks += 1;
 
@@ -273,7 +276,8 @@ impl Run {
         discarded
     }
 
-    /// Step 4: servers at the end of their period start a new one.
+    /// Step 4: servers at the end of their period start a new one. The first one
+    /// begins at the server's phase, as no tick before it is counted as elapsed.
     fn refill_budgets(&mut self) {
         for (server, budget) in self.table.servers.iter().zip(&mut self.budgets) {
             if budget.elapsed == server.period {
@@ -283,7 +287,7 @@ impl Run {
     }
 
     /// Steps 5 and 6: the highest able server is charged, and its highest task
-    /// with a waiting job runs.
+    /// with a waiting job runs. A server that has not started is not able.
     fn schedule(&mut self) -> What {
         // For each server its highest task with a waiting job.
         let mut first_task: [Option<usize>; MAX_SERVERS] = [None; MAX_SERVERS];
@@ -303,7 +307,8 @@ impl Run {
 
         let mut charged: Option<usize> = None;
         for (row, server) in self.table.servers.iter().enumerate() {
-            let able = self.budgets[row].used < server.capacity_in(self.mode)
+            let able = server.has_started(self.ticks)
+                && self.budgets[row].used < server.capacity_in(self.mode)
                 && (server.kind == Kind::Timed || first_task[row].is_some());
             let higher = match charged {
                 None => true,

@@ -177,9 +177,15 @@ impl Block {
     fn take_line(&mut self, word: &str, numbers: &[u64]) -> Result<bool, String> {
         match word {
             "server" => {
-                let [partition, kind, priority, period, n, d1, d2] = fields(word, numbers)?;
+                // The phase is a last number that may be absent, and is then 0.
+                let mut numbers = numbers.to_vec();
+                if numbers.len() == 7 {
+                    numbers.push(0);
+                }
+                let [partition, kind, priority, period, n, d1, d2, phase] = fields(word, &numbers)?;
                 let kind = one(&[Kind::Event, Kind::Timed], kind, "kind")?;
-                let server = Server { partition, kind, priority, period, capacity: [n, d1, d2] };
+                let capacity = [n, d1, d2];
+                let server = Server { partition, kind, priority, period, capacity, phase };
                 push_row(&mut self.servers, server, MAX_SERVERS, word)?;
             }
             "task" => {
@@ -212,8 +218,14 @@ impl Block {
     /// given is all 0. Of too many rows one more than fits is kept, so that
     /// the table stays unsound.
     fn into_run(mut self) -> Run {
-        let blank_server =
-            Server { partition: 0, kind: Kind::Event, priority: 0, period: 0, capacity: [0; 3] };
+        let blank_server = Server {
+            partition: 0,
+            kind: Kind::Event,
+            priority: 0,
+            period: 0,
+            capacity: [0; 3],
+            phase: 0,
+        };
         let blank_task =
             Task { home: 0, degraded: 0, priority: 0, level: Level::Lo, limit: [0; 3] };
         let server_rows = (self.server_count as usize).min(MAX_SERVERS + 1);

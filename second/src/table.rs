@@ -99,7 +99,7 @@ impl Level {
     }
 }
 
-/// A server row. Period and capacities are in ticks.
+/// A server row. Period, capacities and phase are in ticks.
 #[derive(Clone, Debug, PartialEq, Eq)]
 pub struct Server {
     pub partition: u32,
@@ -107,9 +107,17 @@ pub struct Server {
     pub priority: u32,
     pub period: u32,
     pub capacity: [u32; 3],
+    /// The number of the tick at which the server starts.
+    pub phase: u32,
 }
 
 impl Server {
+    /// Whether the server has started at the tick of the number, that is once so
+    /// many ticks were taken.
+    pub fn has_started(&self, tick: u32) -> bool {
+        tick >= self.phase
+    }
+
     pub fn capacity_in(&self, mode: Mode) -> u32 {
         self.capacity[mode.index()]
     }
@@ -182,6 +190,7 @@ fn server_keeps_the_rules(server: &Server) -> bool {
         && (1..=MAX_PRIORITY).contains(&server.priority)
         && (1..=MAX_PERIOD).contains(&server.period)
         && server.largest_capacity() <= server.period
+        && server.phase < server.period
 }
 
 /// What can be wrong with the home and the degraded server of a task, in the

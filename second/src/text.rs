@@ -23,7 +23,7 @@ pub const FALLING_LIMITS: u8 = 45;
 pub const EQUAL_PRIORITIES: u8 = 5;
 
 /// The most fields a line has, with its leading word.
-const MAX_FIELDS: usize = 8;
+const MAX_FIELDS: usize = 9;
 
 /// The field that stands for the line itself; the others count from 1 after
 /// the leading word.
@@ -117,6 +117,7 @@ struct ServerLine {
     priority: u64,
     period: u64,
     capacity: [u64; 3],
+    phase: u64,
 }
 
 /// A task line that is well formed; times are in microseconds.
@@ -140,14 +141,17 @@ pub(crate) fn read_tick(fields: &[&[u8]]) -> Result<u32, Fault> {
     Ok(tick as u32)
 }
 
+/// The phase is a last field that may be absent, and is then 0.
 fn parse_server(fields: &[&[u8]]) -> Result<ServerLine, Fault> {
-    expect_fields(fields, 7)?;
+    let has_phase = fields.len() == 1 + 8;
+    expect_fields(fields, if has_phase { 8 } else { 7 })?;
     Ok(ServerLine {
         partition: number_at(fields, 1)?,
         kind: Kind::from_word(fields[2]).ok_or(Fault::new(MALFORMED, 2))?,
         priority: number_at(fields, 3)?,
         period: number_at(fields, 4)?,
         capacity: [number_at(fields, 5)?, number_at(fields, 6)?, number_at(fields, 7)?],
+        phase: if has_phase { number_at(fields, 8)? } else { 0 },
     })
 }
 
@@ -233,7 +237,7 @@ impl Reader {
     }
 
     fn take_server(&mut self, line: ServerLine, tick: u64) -> Result<(), Fault> {
-        let ServerLine { partition, kind, priority, period, capacity } = line;
+        let ServerLine { partition, kind, priority, period, capacity, phase } = line;
         let [n, d1, d2] = capacity;
 
         // Bounds, in microseconds.
@@ -248,6 +252,7 @@ impl Reader {
                 (5, n <= period),
                 (6, d1 <= period),
                 (7, d2 <= period),
+                (8, phase + tick <= period),
             ],
         )?;
         expect(
@@ -257,6 +262,7 @@ impl Reader {
                 (5, n % tick == 0),
                 (6, d1 % tick == 0),
                 (7, d2 % tick == 0),
+                (8, phase % tick == 0),
             ],
         )?;
 
@@ -266,6 +272,7 @@ impl Reader {
             priority: priority as u32,
             period: (period / tick) as u32,
             capacity: capacity.map(|time| (time / tick) as u32),
+            phase: (phase / tick) as u32,
         });
         Ok(())
     }
@@ -368,7 +375,8 @@ fn first_equal_pair(priorities: &[u32]) -> Option<(usize, usize)> {
     None
 }
 
-/// Writes a table that keeps the rules, in microseconds, from the ticks held.
+/// Writes a table that keeps the rules, in microseconds, from the ticks held. A
+/// phase of 0 is left out.
 pub fn write(table: &Table) -> String {
     let in_microseconds = |ticks: u32| u64::from(ticks) * u64::from(table.tick);
 
@@ -376,12 +384,16 @@ pub fn write(table: &Table) -> String {
     for server in &table.servers {
         let [n, d1, d2] = server.capacity.map(in_microseconds);
         text.push_str(&format!(
-            "server\t{}\t{}\t{}\t{}\t{n}\t{d1}\t{d2}\n",
+            "server\t{}\t{}\t{}\t{}\t{n}\t{d1}\t{d2}",
             server.partition,
             server.kind.word(),
             server.priority,
             in_microseconds(server.period),
         ));
+        if server.phase > 0 {
+            text.push_str(&format!("\t{}", in_microseconds(server.phase)));
+        }
+        text.push('\n');
     }
     for task in &table.tasks {
         let [n, d1, d2] = task.limit.map(in_microseconds);

@@ -16,6 +16,7 @@ fn two_servers(higher: (Kind, u32, u32), lower: (Kind, u32, u32)) -> Table {
         priority,
         period,
         capacity: [capacity; 3],
+        phase: 0,
     };
     let table = Table {
         tick: 1000,

@@ -21,6 +21,7 @@ fn table(servers: &[(Kind, u32, u32, [u32; 3])]) -> Table {
             priority,
             period,
             capacity,
+            phase: 0,
         })
         .collect();
     let last = servers.len() as u32 - 1;

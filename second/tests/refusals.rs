@@ -76,8 +76,9 @@ fn malformed_as_a_line() {
     assert_eq!(changed("tick\t1000", "tick\t1000\t"), "1 1 0");
     assert_eq!(changed("tick\t1000", "tick\t1000\t1000"), "1 1 0");
     assert_eq!(changed("\t5000\t7000\t7000", "\t5000\t7000"), "1 3 0");
-    assert_eq!(changed("\t5000\t7000\t7000", "\t5000\t7000\t7000\t7000"), "1 3 0");
-    assert_eq!(changed("\t5000\t7000\t7000", "\t5000\t7000\t7000\t"), "1 3 0");
+    assert_eq!(changed("\t5000\t7000\t7000", "\t5000\t7000\t7000\t7000\t7000"), "1 3 0");
+    assert_eq!(changed("\t5000\t7000\t7000", "\t5000\t7000\t7000\t7000\t"), "1 3 0");
+    assert_eq!(changed("\t5000\t7000\t7000", "\t5000\t7000\t7000\t\t"), "1 3 0");
     assert_eq!(changed(SERVER_1, "server"), "1 3 0");
     assert_eq!(changed(TASK_1, "task\t1\t1\t40\tMI\t3000\t4000"), "1 6 0");
     assert_eq!(changed(TASK_1, "task\t1\t1\t40\tMI\t3000\t4000\t4000\t4000"), "1 6 0");
@@ -96,6 +97,9 @@ fn malformed_fields() {
     assert_eq!(changed("\t5000\t7000\t7000", "\t5000 \t7000\t7000"), "1 3 5");
     assert_eq!(changed("\t5000\t7000\t7000", "\t5000\t+7000\t7000"), "1 3 6");
     assert_eq!(changed("\t5000\t7000\t7000", "\t5000\t7000\t7000\r"), "1 3 7");
+    assert_eq!(changed("\t5000\t7000\t7000", "\t5000\t7000\t7000\t"), "1 3 8");
+    assert_eq!(changed("\t5000\t7000\t7000", "\t5000\t7000\t7000\t01000"), "1 3 8");
+    assert_eq!(changed("\t5000\t7000\t7000", "\t5000\t7000\t7000\t000000000000"), "1 3 8");
     assert_eq!(changed("task\t2\t2", "task\t000000000002\t2"), "1 7 1");
     assert_eq!(changed("task\t2\t2", "task\t2\t02"), "1 7 2");
     assert_eq!(changed("\t50\tHI", "\t5O\tHI"), "1 5 3");
@@ -282,7 +286,7 @@ fn the_order_of_refusals() {
 type Fault = (usize, &'static str, (u32, usize));
 
 /// Faults of the example's line 3, a timed server.
-const SERVER_FAULTS: [Fault; 18] = [
+const SERVER_FAULTS: [Fault; 24] = [
     (1, "x", (1, 1)),
     (1, "16", (2, 1)),
     (2, "Timed", (1, 2)),
@@ -301,6 +305,12 @@ const SERVER_FAULTS: [Fault; 18] = [
     (7, "7000.", (1, 7)),
     (7, "10000000000", (2, 7)),
     (7, "6999", (3, 7)),
+    (8, "", (1, 8)),
+    (8, "-1000", (1, 8)),
+    (8, "19002", (2, 8)),
+    (8, "20000", (2, 8)),
+    (8, "99999999999", (2, 8)),
+    (8, "1", (3, 8)),
 ];
 
 /// Faults of the example's line 5, a task at home on an event server.
@@ -328,12 +338,16 @@ const TASK_FAULTS: [Fault; 21] = [
     (7, "1000", (45, 7)),
 ];
 
-/// A line of the example with fields exchanged.
+/// A line of the example with fields exchanged, or a phase added.
 fn faulty(line: usize, faults: &[Fault]) -> String {
     let line = EXAMPLE.lines().nth(line - 1).unwrap();
     let mut fields: Vec<&str> = line.split('\t').collect();
     for (field, text, _) in faults {
-        fields[*field] = text;
+        if *field == fields.len() {
+            fields.push(text);
+        } else {
+            fields[*field] = text;
+        }
     }
     fields.join("\t")
 }
@@ -373,11 +387,11 @@ fn a_fault_of_the_line_itself_comes_first() {
     for (at, faults) in [(3, &SERVER_FAULTS[..]), (5, &TASK_FAULTS[..])] {
         for fault in faults {
             let line = faulty(at, &[*fault]);
-            let (start, _) = line.rsplit_once('\t').unwrap();
+            let start: Vec<&str> = line.split('\t').take(7).collect();
             let (_, rest) = line.split_once('\t').unwrap();
             let wrong = [
-                start.to_string(),           // a field too few
-                format!("{line}\t"),         // a field too many
+                start.join("\t"),            // a field too few
+                format!("{line}\t\t"),       // fields too many
                 format!("{line}\t{line}"),   // many too many
                 format!("row\t{rest}"),      // another leading word
                 format!("\t{line}"),         // none

@@ -13,8 +13,14 @@ use Mode::{D1, D2, N};
 /// jobs of each of the other levels wait, at lower tasks. One timed server has
 /// time for all.
 fn at_limit(level: Level, limit: [u32; 3], mode: Mode, others: &[Level]) -> Run {
-    let server =
-        Server { partition: 0, kind: Kind::Timed, priority: 1, period: 90, capacity: [90; 3] };
+    let server = Server {
+        partition: 0,
+        kind: Kind::Timed,
+        priority: 1,
+        period: 90,
+        capacity: [90; 3],
+        phase: 0,
+    };
     let task = |priority, level, limit| Task { home: 0, degraded: 0, priority, level, limit };
     let mut tasks = vec![task(9, level, limit)];
     let mut queues = vec![Queue { waiting: 1, run: limit[mode.index()] }];

@@ -57,11 +57,16 @@ fn jobs_released_are_finished_cut_discarded_or_waiting() {
 fn check_charge(before: &Run, after: &Run, what: What) {
     let mut charged = Vec::new();
     let mut highest: Option<usize> = None;
+    let tick = before.ticks;
     for (row, server) in after.table.servers.iter().enumerate() {
         let mut used = before.budgets[row].used;
         if before.budgets[row].elapsed == server.period {
             used = 0;
         }
+        // Periods count from the phase.
+        let elapsed =
+            if tick < server.phase { 0 } else { (tick - server.phase) % server.period + 1 };
+        assert_eq!(after.budgets[row].elapsed, elapsed);
         if after.budgets[row].used != used {
             assert_eq!(after.budgets[row].used, used + 1);
             charged.push(row);
@@ -70,8 +75,9 @@ fn check_charge(before: &Run, after: &Run, what: What) {
             let server = if after.mode == Mode::N { task.home } else { task.degraded };
             server as usize == row && queue.waiting > 0
         });
-        let able =
-            used < server.capacity[after.mode.index()] && (work || server.kind == Kind::Timed);
+        let able = tick >= server.phase
+            && used < server.capacity[after.mode.index()]
+            && (work || server.kind == Kind::Timed);
         if able && highest.is_none_or(|other| after.table.servers[other].priority < server.priority)
         {
             highest = Some(row);

@@ -39,6 +39,7 @@ fn table(servers: usize, tasks: usize) -> Table {
             priority: priority as u64,
             period,
             capacity,
+            phase: None,
         });
     }
 

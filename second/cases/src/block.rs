@@ -257,15 +257,19 @@ impl Block {
     }
 
     /// How many bytes the table's text has.
-    fn text_length(&self) -> u64 {
+    pub fn text_length(&self) -> u64 {
         self.table_text().len() as u64
     }
 
-    /// The text of the table, which keeps the rules, on the rows in use.
+    /// The text of the table, which keeps the rules, on the rows in use, as a writer
+    /// writes it.
     pub fn table_text(&self) -> String {
         let mut used = self.clone();
         used.servers.truncate(self.server_count as usize);
         used.tasks.truncate(self.task_count as usize);
+        for server in &mut used.servers {
+            server.phase = server.phase.filter(|&phase| phase > 0);
+        }
         let kind = |server: &Server| if server.timed { "timed" } else { "event" };
         let level = |task: &Task| LEVELS[task.level as usize];
         line(&[&"tick", &self.tick]) + &used.row_lines(self.tick, kind, level)
@@ -282,8 +286,11 @@ impl Block {
         for row in &self.servers {
             let [n, d1, d2] = row.capacity.map(|ticks| ticks * tick);
             let (kind, period) = (kind(row), row.period * tick);
-            text +=
-                &line(&[&"server", &row.partition, &kind, &row.priority, &period, &n, &d1, &d2]);
+            let phase = row.phase.map(|phase| phase * tick);
+            let mut fields: Vec<&dyn Display> =
+                vec![&"server", &row.partition, &kind, &row.priority, &period, &n, &d1, &d2];
+            fields.extend(phase.as_ref().map(|phase| phase as &dyn Display));
+            text += &line(&fields);
         }
         for row in &self.tasks {
             let [n, d1, d2] = row.limit.map(|ticks| ticks * tick);
@@ -454,6 +461,7 @@ fn any_server(random: &mut Random) -> Server {
         priority: random.within(0, MAX_BYTE),
         period: any(random),
         capacity: [0; 3].map(|_| any(random)),
+        phase: None,
     }
 }
 

@@ -8,6 +8,8 @@ use std::path::Path;
 use crate::damage;
 use crate::events;
 use crate::frame::FrameCase;
+use crate::phase;
+use crate::phase_damage;
 use crate::random::Random;
 use crate::table::{self, text_of, Table};
 
@@ -25,6 +27,9 @@ const LONG_FRAME_EVERY: u64 = 5;
 /// with them and without.
 const FRAME_SEED: u64 = 0x6672_616d;
 
+/// So many of a hundred small tables give way to tables damaged at a phase.
+const DAMAGED_PHASES: u64 = 60;
+
 /// The cases from this number on are long nights.
 pub const LONG: u64 = 1_000_000_000;
 /// The first of so many long nights has several hundred kilobytes of events, by
@@ -35,10 +40,24 @@ impl Case {
     /// The case of a seed with a number, always the same one.
     pub fn make(seed: u64, number: u64) -> Case {
         let frame = frame_case(seed, number);
-        Case { frame, ..Case::without_frame(seed, number) }
+        let mut case = Case { frame, ..Case::without_phases(seed, number) };
+        case.give_phases(&mut Random::for_case(seed ^ phase::SEED, number));
+        case
     }
 
-    fn without_frame(seed: u64, number: u64) -> Case {
+    /// Gives the servers of the table phases, or the case a table that is damaged
+    /// at one in place of a small one. The rest of the case stays.
+    fn give_phases(&mut self, random: &mut Random) {
+        if self.name == "good-small" && random.chance(DAMAGED_PHASES) {
+            (self.table, self.name) = phase_damage::damaged(random);
+        } else if !self.name.starts_with("2-text-of-") {
+            // The length of the others matters.
+            let night = events::sure_ticks(&self.events) as u64;
+            self.table = phase::give(&self.table, night, random);
+        }
+    }
+
+    fn without_phases(seed: u64, number: u64) -> Case {
         let mut random = Random::for_case(seed, number);
         let random = &mut random;
         if number >= LONG {
@@ -157,6 +176,32 @@ mod tests {
                 );
             }
         }
+    }
+
+    #[test]
+    fn phases_change_nothing_else() {
+        let (mut given, mut replaced) = (0, 0);
+        for number in (0..1000).chain(LONG..LONG + 10) {
+            let (plain, case) = (Case::without_phases(1, number), Case::make(1, number));
+            assert_eq!(plain.events, case.events);
+            if plain.name != case.name {
+                replaced += 1;
+                continue;
+            }
+            let mut plain_lines = plain.table.split(|&byte| byte == b'\n');
+            let mut some = false;
+            for line in case.table.split(|&byte| byte == b'\n') {
+                let own = plain_lines.next().unwrap_or_default();
+                if line != own {
+                    some = true;
+                    assert_eq!(own.split(|&byte| byte == b'\t').count(), 8);
+                    assert!(line.starts_with(&[own, b"\t"].concat()), "{}", case.name);
+                }
+            }
+            assert_eq!(plain_lines.next(), None);
+            given += u64::from(some);
+        }
+        assert!(given > 250 && replaced > 80, "{given} {replaced}");
     }
 
     #[test]

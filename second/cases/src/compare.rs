@@ -158,7 +158,7 @@ fn seen_in(case: &Case, runs: &[Run], page: Option<&Page>) -> Coverage {
             }
             ("report", _) => coverage.page(&case.table, &case.events, output),
             ("verdicts", _) => coverage.verdicts(output),
-            ("fits", _) => coverage.fits(page),
+            ("fits", _) => coverage.fits(&case.table, page),
             ("rewrite", _) => coverage.rewrite(&case.table, output),
             (_, Some(frame)) => coverage.frame(frame, output),
             _ => {}

@@ -8,6 +8,7 @@ use crate::fit::{self, Page};
 use crate::frame::FrameCase;
 use crate::frame_seen;
 use crate::judged::{self, Judged, LEVELS, MODES};
+use crate::phase_seen;
 
 /// The counts that must not be 0, beside those of step 1 and of tables that fit or
 /// miss.
@@ -42,12 +43,12 @@ const WANTED: [&str; 24] = [
 /// A field 0 is told apart by its causes instead, as [`cause_of_1`] has them.
 const FIELDS: [(&str, &str, &[usize]); 12] = [
     ("1", "tick", &[1]),
-    ("1", "server", &[1, 2, 3, 4, 5, 6, 7]),
+    ("1", "server", &[1, 2, 3, 4, 5, 6, 7, 8]),
     ("1", "task", &[1, 2, 3, 4, 5, 6, 7]),
     ("2", "tick", &[1]),
-    ("2", "server", &[1, 3, 4, 5, 6, 7]),
+    ("2", "server", &[1, 3, 4, 5, 6, 7, 8]),
     ("2", "task", &[3, 5, 6, 7]),
-    ("3", "server", &[4, 5, 6, 7]),
+    ("3", "server", &[4, 5, 6, 7, 8]),
     ("41", "task", &[1, 2]),
     ("42", "task", &[2]),
     ("43", "task", &[2]),
@@ -261,6 +262,9 @@ impl Coverage {
         for what in made(name) {
             self.count(&format!("made: {what}"));
         }
+        for what in phase_seen::made(name) {
+            self.count(&what);
+        }
     }
 
     /// Counts the answers of a night.
@@ -298,6 +302,7 @@ impl Coverage {
             }
         }
         self.count("table taken");
+        phase_seen::see(table, output, |what| self.count(what));
     }
 
     /// Counts a refusal of a text by its number, line and field or second line. The
@@ -485,10 +490,12 @@ impl Coverage {
     }
 
     /// Counts whether a table fits, and what is to be seen of that.
-    pub fn fits(&mut self, page: Option<&Page>) {
-        for name in page.map(Page::names).unwrap_or_default() {
+    pub fn fits(&mut self, table: &[u8], page: Option<&Page>) {
+        let Some(page) = page else { return };
+        for name in page.names() {
             self.count(&name);
         }
+        phase_seen::see_fits(table, page.told().is_none(), |what| self.count(what));
     }
 
     /// Counts a table written back, by whether it is the text that was read.
@@ -498,6 +505,7 @@ impl Coverage {
         } else if !output.starts_with(b"table\t") {
             self.count("rewritten otherwise");
         }
+        phase_seen::see_rewritten(table, output, |what| self.count(what));
     }
 
     /// Prints all counts; gives whether none of the wanted is 0. What stands at
@@ -514,8 +522,10 @@ impl Coverage {
         }
         let seen = [&WANTED[..], &judged::WANTED[..], &PAGES[..], &fit::WANTED[..]].concat();
         let frames = [&FRAME_CAUSES[..], &FRAME_MADE[..], &frame_seen::WANTED[..]].concat();
-        let others = [&CAUSES[..], &MADE[..], &seen[..], &frames[..]].concat();
+        let others =
+            [&CAUSES[..], &MADE[..], &seen[..], &phase_seen::WANTED[..], &frames[..]].concat();
         wanted.extend(others.into_iter().map(String::from));
+        wanted.extend(phase_seen::all_made());
         if long {
             let seams = READ.counts.iter().chain(&WRITTEN.counts).chain(&BATCH.counts[..3]);
             wanted.extend(LONG_PAGES.iter().chain(seams).map(|what| what.to_string()));
@@ -696,6 +706,7 @@ fn kind_of(letter: u8) -> usize {
 mod tests {
     use super::{made, Coverage, FRAME, FRAME_MADE, MADE, TABLE};
     use crate::case::Case;
+    use crate::phase_seen;
 
     #[test]
     fn the_default_cases_make_every_pair_of_faults() {
@@ -707,8 +718,9 @@ mod tests {
                 coverage.frame(frame, b"table\tno\t2\t0\t0\n");
             }
         }
-        for what in MADE.iter().chain(&FRAME_MADE) {
-            assert!(coverage.counts.contains_key(*what), "{what}");
+        let made = MADE.iter().chain(&FRAME_MADE).map(|what| what.to_string());
+        for what in made.chain(phase_seen::all_made()) {
+            assert!(coverage.counts.contains_key(&what), "{what}");
         }
     }
 

@@ -23,7 +23,7 @@ pub fn damaged(random: &mut Random) -> (Vec<u8>, String) {
 }
 
 #[derive(Clone, Copy, PartialEq, Eq)]
-enum Place {
+pub enum Place {
     Tick,
     Server(usize),
     Task(usize),
@@ -47,8 +47,8 @@ impl Place {
         }
     }
 
-    /// The fields that a fault of the number can be after.
-    fn fields_for(self, number: u8) -> &'static [usize] {
+    /// The fields that a fault of the number can be after, but for the phase.
+    pub fn fields_for(self, number: u8) -> &'static [usize] {
         match (self, number) {
             (Place::Tick, 1) => &[0, 0, 1],
             (Place::Tick, 2) => &[1],
@@ -73,25 +73,25 @@ const LINE: u8 = 0;
 
 /// A fault of a line: the number it is after, and the field.
 #[derive(Clone, Copy, PartialEq, Eq)]
-struct Fault {
-    number: u8,
-    field: usize,
+pub struct Fault {
+    pub number: u8,
+    pub field: usize,
 }
 
 /// A table and its lines, which take the faults.
-struct Draft {
-    table: Table,
-    lines: Vec<Line>,
+pub struct Draft {
+    pub table: Table,
+    pub lines: Vec<Line>,
 }
 
 impl Draft {
-    fn new(table: Table) -> Draft {
+    pub fn new(table: Table) -> Draft {
         let lines = table.lines();
         Draft { table, lines }
     }
 
     /// The number of the line, counted from 0.
-    fn index(&self, place: Place) -> usize {
+    pub fn index(&self, place: Place) -> usize {
         match place {
             Place::Tick => 0,
             Place::Server(row) => 1 + row,
@@ -99,7 +99,7 @@ impl Draft {
         }
     }
 
-    fn line(&mut self, place: Place) -> &mut Line {
+    pub fn line(&mut self, place: Place) -> &mut Line {
         let index = self.index(place);
         &mut self.lines[index]
     }
@@ -116,7 +116,7 @@ impl Draft {
         Place::Task(random.below(self.table.tasks.len()))
     }
 
-    fn any_place(&self, random: &mut Random) -> Place {
+    pub fn any_place(&self, random: &mut Random) -> Place {
         match random.below(16) {
             0..=2 => Place::Tick,
             3..=9 => self.any_server(random),
@@ -134,7 +134,7 @@ impl Draft {
     }
 
     /// A number that a fault of the line can have.
-    fn number_for(&self, place: Place, random: &mut Random) -> u8 {
+    pub fn number_for(&self, place: Place, random: &mut Random) -> u8 {
         match place {
             Place::Tick => random.pick(&[1, 1, 2]),
             Place::Server(_) => random.pick(&[1, 1, 2, 2, 3]),
@@ -146,13 +146,13 @@ impl Draft {
     }
 
     /// Puts a fault of the number at the place, at any of its fields.
-    fn put_any(&mut self, number: u8, place: Place, random: &mut Random) -> String {
+    pub fn put_any(&mut self, number: u8, place: Place, random: &mut Random) -> String {
         let field = random.pick(place.fields_for(number));
         self.put(Fault { number, field }, place, random)
     }
 
     /// Puts a fault at the place and gives its name.
-    fn put(&mut self, fault: Fault, place: Place, random: &mut Random) -> String {
+    pub fn put(&mut self, fault: Fault, place: Place, random: &mut Random) -> String {
         let Fault { number, field } = fault;
         let how = match (number, field) {
             (1, 0) => malform_line(self.line(place), None, random),
@@ -168,7 +168,12 @@ impl Draft {
 
     /// Puts two faults of different fields at the place, given from left to
     /// right. Each leaves the other in place where it can.
-    fn put_both(&mut self, faults: [Fault; 2], place: Place, random: &mut Random) -> [String; 2] {
+    pub fn put_both(
+        &mut self,
+        faults: [Fault; 2],
+        place: Place,
+        random: &mut Random,
+    ) -> [String; 2] {
         let [left, right] = faults;
         if left.number == 45 && right.number == 45 {
             self.fall_twice(place);
@@ -249,10 +254,10 @@ impl Draft {
                 self.set(place, 4, random.pick(&beyond));
                 "period-long"
             }
+            (Place::Server(row), 8) => self.phase_above(place, row, random),
             (Place::Server(row), _) => {
                 // Above the period that is written there.
-                let written = String::from_utf8_lossy(&self.line(place)[4]).parse();
-                let period = written.unwrap_or(self.table.servers[row].period * tick);
+                let period = self.written_period(place, row);
                 let beyond = [period + 1, period + tick - 1, period + tick, period + (1 << 32)];
                 let beyond = random.pick(&beyond).min(ELEVEN_DIGITS);
                 self.set(place, field, random.pick(&[beyond, beyond, beyond, ELEVEN_DIGITS]));
@@ -282,7 +287,49 @@ impl Draft {
         }
     }
 
-    /// 3: a period or capacity that is not whole ticks. The tick is 2 or more.
+    /// The period that is written there, in microseconds; if it is malformed, that of
+    /// the table.
+    fn written_period(&mut self, place: Place, row: usize) -> u64 {
+        let written = String::from_utf8_lossy(&self.line(place)[4]).parse();
+        written.unwrap_or(self.table.servers[row].period * self.table.tick)
+    }
+
+    /// 2: a phase above the period that is written there less one tick.
+    fn phase_above(&mut self, place: Place, row: usize, random: &mut Random) -> &'static str {
+        let tick = self.table.tick;
+        let period = self.written_period(place, row);
+        let least = period.saturating_sub(tick) + 1;
+        let own = self.table.servers[row].phase.unwrap_or(0) * tick;
+        let (phase, how) = match random.below(8) {
+            0 | 1 => (least, "phase-above-by-1"),
+            2 | 3 => (period, "phase-period"),
+            4 => (period.max(least + 1) - 1, "phase-period-less-1"),
+            5 => (period + random.pick(&[1, tick - 1, tick]), "phase-above-period"),
+            6 => (random.pick(&[1 << 32, 1 << 35]) + own, "phase-round-32-bits"),
+            _ => (ELEVEN_DIGITS, "phase-11-digits"),
+        };
+        self.set(place, 8, phase.max(least).min(ELEVEN_DIGITS));
+        how
+    }
+
+    /// 3: a phase that is not whole ticks, and not above the period that is written
+    /// there less one tick. The period is 2 ticks or more.
+    fn phase_part(&mut self, place: Place, row: usize, random: &mut Random) -> &'static str {
+        let tick = self.table.tick;
+        let period = self.written_period(place, row);
+        if period > tick && period % tick > 0 && random.chance(50) {
+            self.set(place, 8, period - tick);
+            return "phase-at-the-bound";
+        }
+        let most = (period / tick).saturating_sub(1).max(1);
+        let any_part = random.within(1, tick - 1);
+        let part = random.pick(&[1, any_part, tick - 1]);
+        let ticks = random.pick(&[1, most, most]);
+        self.set(place, 8, ticks * tick - part);
+        "phase-part"
+    }
+
+    /// 3: a period, capacity or phase that is not whole ticks. The tick is 2 or more.
     fn not_whole(&mut self, place: Place, field: usize, random: &mut Random) -> &'static str {
         let Place::Server(row) = place else { return "nowhere" };
         let tick = self.table.tick;
@@ -292,6 +339,9 @@ impl Draft {
         if field == 4 {
             self.set(place, 4, server.period * tick + part);
             return "period";
+        }
+        if field == 8 {
+            return self.phase_part(place, row, random);
         }
         let capacity = server.capacity[field - 5];
         if capacity < server.period && random.chance(50) {
@@ -410,7 +460,7 @@ impl Draft {
     }
 
     /// 5: equal priorities.
-    fn equal_priorities(&mut self, random: &mut Random) -> String {
+    pub fn equal_priorities(&mut self, random: &mut Random) -> String {
         let servers = self.table.servers.len();
         let tasks = self.table.tasks.len();
         let name = match random.below(5) {
@@ -466,6 +516,19 @@ impl Draft {
 /// 1 as 0: the line loses its leading word or has another count of fields,
 /// one field being kept.
 pub fn malform_line(line: &mut Line, keep: Option<usize>, random: &mut Random) -> &'static str {
+    let how = malform_once(line, keep, random);
+    // A server line may have 7 fields or 8.
+    if line.first().is_some_and(|word| word == b"server") {
+        if line.len() == 1 + 8 {
+            line.insert(8, b"0".to_vec());
+        } else if line.len() == 1 + 7 {
+            line.remove(1);
+        }
+    }
+    how
+}
+
+fn malform_once(line: &mut Line, keep: Option<usize>, random: &mut Random) -> &'static str {
     let fields = line.len() - 1;
     match random.below(9) {
         0 | 1 => {

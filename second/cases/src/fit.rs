@@ -189,7 +189,8 @@ fn row_of(server: &str, line: &str, tick: u64) -> Option<Row> {
     let fields: Vec<&str> = server.split('\t').collect();
     let [_, kind, priority, times @ ..] = fields.as_slice() else { return None };
     let times: Option<Vec<u64>> = times.iter().map(|time| Some(ticks(time)? / tick)).collect();
-    let &[period, n, d1, d2] = times?.as_slice() else { return None };
+    // A phase changes no verdict.
+    let (&[period, n, d1, d2] | &[period, n, d1, d2, _]) = times?.as_slice() else { return None };
     let verdicts: Vec<Option<u64>> = line.split('\t').skip(1).map(ticks).collect();
     Some(Row {
         timed: *kind == "timed",

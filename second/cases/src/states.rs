@@ -6,10 +6,12 @@ use std::fs;
 use std::path::{Path, PathBuf};
 use std::process::{Command, Output, Stdio};
 
-use crate::block::{Block, Operation};
+use crate::block::{Block, Budget, Operation};
 use crate::fit::{self, Page};
 use crate::frame_block::{self, FrameBlock};
 use crate::judged::{self, Judged, LEVELS, MODES};
+use crate::phase;
+use crate::phase_block;
 use crate::random::Random;
 use crate::table;
 use crate::unsound;
@@ -24,8 +26,11 @@ const IN_TURN_EVERY: u64 = 20;
 /// One of so many blocks is a frame block, which is the third of them.
 const FRAME_EVERY: u64 = 5;
 
+/// One of so many blocks is about phases, which is the sixth of them.
+const PHASE_EVERY: u64 = 10;
+
 /// The counts that must not be 0, beside those of step 1, those of tables that fit
-/// or miss, and those for each clause broken.
+/// or miss, those of phases, and those for each clause broken.
 const WANTED: [&str; 45] = [
     "fresh taken",
     "release taken",
@@ -153,12 +158,17 @@ fn make(seed: u64, number: u64) -> Made {
         let text = block.text(random);
         return Made { number, block: Asked::Frame(block), text, page: None };
     }
-    let mut block = if number % IN_TURN_EVERY == IN_TURN_EVERY - 1 {
+    // Phases are drawn apart, so that a block is otherwise what it was.
+    let phases = &mut Random::for_case(seed ^ phase::SEED, number);
+    let mut block = if number % PHASE_EVERY == 5 {
+        phase_block::in_turn((number / PHASE_EVERY) as usize, phases)
+    } else if number % IN_TURN_EVERY == IN_TURN_EVERY - 1 {
         unsound::in_turn((number / IN_TURN_EVERY) as usize, random)
     } else {
         any_block(random)
     };
     block.pad(random);
+    phase_block::give(&mut block, phases);
     let text = block.text(random);
     Made { number, block: Asked::Table(block), text, page: None }
 }
@@ -239,6 +249,7 @@ fn compare_answers(seed: u64, made: &[Made], first: &[u8], second: &[u8], totals
         match block {
             Asked::Table(block) => {
                 totals.see(block, other);
+                totals.see_phases(block, other);
                 totals.see_page(block, page.as_ref());
             }
             Asked::Frame(block) => totals.see_frame(block, other),
@@ -346,8 +357,30 @@ fn difference(
     match (block.must_be_13(), second == Some(b"no\t13\n")) {
         (true, false) => Some(format!("must be 13, both say {}", show(second))),
         (false, true) => Some("is sound, both say 13".to_string()),
-        _ => unlike_the_page(page, second),
+        _ => unlike_the_page(page, second).or_else(|| unlike_the_phases(block, second)),
     }
+}
+
+/// How the budgets after a tick differ from what the phases say, if they do.
+fn unlike_the_phases(block: &Asked, answer: Option<&[u8]>) -> Option<String> {
+    let Asked::Table(block) = block else { return None };
+    with_budgets(answer, |answer| phase_block::wrong_budget(block, answer))
+}
+
+/// Takes an answer apart for what is about phases.
+fn with_budgets<T>(answer: Option<&[u8]>, look: impl Fn(&phase_block::Answer) -> T) -> T {
+    let answer = answer.unwrap_or_default();
+    let line = first_line(answer);
+    let (no, tick) = (numbers_of(line, b"no"), numbers_of(line, b"tick"));
+    let budgets: Vec<Budget> = answer
+        .split_inclusive(|&byte| byte == b'\n')
+        .filter_map(|line| numbers_of(line, b"budget"))
+        .filter_map(|numbers| match numbers.as_slice() {
+            &[used, elapsed] => Some(Budget { used, elapsed }),
+            _ => None,
+        })
+        .collect();
+    look(&phase_block::Answer { no: no.as_deref(), tick: tick.as_deref(), budgets: &budgets })
 }
 
 /// How the answer differs from what the page of verdicts says, if it does.
@@ -409,6 +442,13 @@ impl Totals {
             if *tick == 3_999_999_999 {
                 self.count("tick 3999999999");
             }
+        }
+    }
+
+    /// Counts what is to be seen of phases.
+    fn see_phases(&mut self, block: &Block, answer: Option<&[u8]>) {
+        for name in with_budgets(answer, |answer| phase_block::names(block, answer)) {
+            self.count(&name);
         }
     }
 
@@ -480,6 +520,7 @@ impl Totals {
         wanted.extend(unsound::state_names().map(beside));
         wanted.extend(unsound::names().map(|name| format!("fits_state, {}", broken(name))));
         wanted.extend(frame_block::broken_names());
+        wanted.extend(phase_block::wanted());
         let mut complete = true;
         for what in &wanted {
             let count = self.seen.get(what).copied().unwrap_or(0);

@@ -9,7 +9,8 @@ pub const MAX_PRIORITY: u64 = 255;
 pub const MAX_SERVERS: usize = 32;
 pub const MAX_TASKS: usize = 64;
 
-/// A server row, in ticks.
+/// A server row, in ticks. The phase may be absent, and may be 0 and there all the
+/// same.
 #[derive(Clone)]
 pub struct Server {
     pub partition: u64,
@@ -17,6 +18,7 @@ pub struct Server {
     pub priority: u64,
     pub period: u64,
     pub capacity: [u64; 3],
+    pub phase: Option<u64>,
 }
 
 /// A task row. The times are in microseconds, as they stand in the text.
@@ -46,7 +48,7 @@ impl Table {
             let kind = if server.timed { "timed" } else { "event" };
             let [n, d1, d2] = server.capacity.map(|ticks| ticks * self.tick);
             let period = server.period * self.tick;
-            lines.push(line_of(&[
+            let mut line = line_of(&[
                 &"server",
                 &server.partition,
                 &kind,
@@ -55,7 +57,9 @@ impl Table {
                 &n,
                 &d1,
                 &d2,
-            ]));
+            ]);
+            line.extend(server.phase.map(|phase| number(phase * self.tick)));
+            lines.push(line);
         }
         for task in &self.tasks {
             let [n, d1, d2] = task.time;
@@ -72,6 +76,10 @@ impl Table {
         }
         lines
     }
+}
+
+pub fn number(number: u64) -> Vec<u8> {
+    number.to_string().into_bytes()
 }
 
 pub fn line_of(fields: &[&dyn std::fmt::Display]) -> Line {
@@ -301,6 +309,7 @@ fn draw(shape: &Shape, random: &mut Random) -> Table {
             priority,
             period,
             capacity: [0; 3].map(|_| draw_capacity(period, random)),
+            phase: None,
         });
     }
     let some_row = random.below(servers.len());

@@ -68,6 +68,7 @@ pub fn random_table(random: &mut Random) -> Table {
             priority: 1 + (row * 7 + 3) % 11,
             period,
             capacity: [0; 3].map(|_| random.within(0, period)),
+            phase: random.within(0, period - 1),
         });
     }
     let mut tasks = Vec::new();
