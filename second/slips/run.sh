@@ -1,10 +1,8 @@
 #!/bin/sh
 # Puts each slip of this folder into a scratch copy of `second`, builds it, and
 # lets `cases compare` look for it, of `frame` alone if its name begins with
-# `frame`, of `responses` alone if it begins with `response`, of `rewrite` alone if it
-# begins with `separation`, or `cases states` if its name begins with `states`. Prints a
-# line for each slip: its name, how many of the cases or blocks caught it, the first
-# such case or block.
+# `frame`, or `cases states` if its name begins with `states`. Prints a line for each slip: its name, how many of the cases or blocks
+# caught it, the first such case or block.
 #   slips/run.sh [SEED [COUNT [SLIP...]]]
 # Wants both packages built with `cargo build --release`. The variable THREADS
 # says how many cases are run at a time, 2 if it is not set.
@@ -30,8 +28,6 @@ for patch in "$@"; do
     case $name in
         states-*) look=states threads= ;;
         frame-*) look=compare threads="--threads ${THREADS:-2} --only frame" ;;
-        response-*) look=compare threads="--threads ${THREADS:-2} --only responses" ;;
-        separation-*) look=compare threads="--threads ${THREADS:-2} --only rewrite" ;;
         *) look=compare threads="--threads ${THREADS:-2}" ;;
     esac
     # The folder of programs takes the slipped binary from the variable SECOND.

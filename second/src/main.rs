@@ -1,6 +1,6 @@
 //! `second night TABLE EVENTS`, `second report TABLE EVENTS`, `second verdicts
-//! TABLE`, `second fits TABLE`, `second responses TABLE`, `second rewrite TABLE`,
-//! `second states FILE` and `second frame TABLE EVENTS`; `-` stands for standard input.
+//! TABLE`, `second fits TABLE`, `second rewrite TABLE`, `second states FILE` and
+//! `second frame TABLE EVENTS`; `-` stands for standard input.
 
 use std::ffi::{OsStr, OsString};
 use std::fs::File;
@@ -12,7 +12,6 @@ use second::frame::FrameRun;
 use second::frame_text;
 use second::night;
 use second::report;
-use second::response;
 use second::run::Run;
 use second::states;
 use second::table::Table;
@@ -20,8 +19,8 @@ use second::text::{self, Refusal};
 use second::verdict;
 
 const USAGE: &str = "usage: second night TABLE EVENTS | second report TABLE EVENTS | \
-                     second verdicts TABLE | second fits TABLE | second responses TABLE | \
-                     second rewrite TABLE | second states FILE | second frame TABLE EVENTS";
+                     second verdicts TABLE | second fits TABLE | second rewrite TABLE | \
+                     second states FILE | second frame TABLE EVENTS";
 const BUFFER_SIZE: usize = 64 * 1024;
 
 type Events = BufReader<Box<dyn Read>>;
@@ -61,7 +60,6 @@ fn choose_program(arguments: &[OsString]) -> Result<(), String> {
         }
         (Some("verdicts"), &[table]) => print_table(table, verdict::lines),
         (Some("fits"), &[table]) => print_table(table, fits::line),
-        (Some("responses"), &[table]) => print_table(table, response::lines),
         (Some("rewrite"), &[table]) => print_table(table, text::write),
         (Some("states"), &[file]) => run_states(file),
         _ => Err(USAGE.to_string()),

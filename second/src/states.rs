@@ -5,8 +5,7 @@ use std::fmt::Write;
 
 use crate::fits;
 use crate::frame_states::FrameBlock;
-use crate::response;
-use crate::run::{Answer, Budget, How, No, Queue, Run, What};
+use crate::run::{Answer, Budget, How, Queue, Run, What};
 use crate::table::{Kind, Level, Mode, Server, Table, Task, MAX_SERVERS, MAX_TASKS};
 use crate::text;
 use crate::verdict;
@@ -120,7 +119,6 @@ pub(crate) enum Operation {
     Write(u64),
     Fits,
     FitsState,
-    Response(u64),
 }
 
 impl Operation {
@@ -137,7 +135,6 @@ impl Operation {
             ("write", &[room]) => Ok(Operation::Write(room)),
             ("fits", []) => Ok(Operation::Fits),
             ("fits_state", []) => Ok(Operation::FitsState),
-            ("response", &[task]) => Ok(Operation::Response(task)),
             _ => Err(format!("no such line: {word} with {} numbers", numbers.len())),
         }
     }
@@ -180,19 +177,21 @@ impl Block {
     fn take_line(&mut self, word: &str, numbers: &[u64]) -> Result<bool, String> {
         match word {
             "server" => {
-                let [partition, kind, priority, period, n, d1, d2, phase] =
-                    fields(word, &with_last_number(numbers))?;
+                // The phase is a last number that may be absent, and is then 0.
+                let mut numbers = numbers.to_vec();
+                if numbers.len() == 7 {
+                    numbers.push(0);
+                }
+                let [partition, kind, priority, period, n, d1, d2, phase] = fields(word, &numbers)?;
                 let kind = one(&[Kind::Event, Kind::Timed], kind, "kind")?;
                 let capacity = [n, d1, d2];
                 let server = Server { partition, kind, priority, period, capacity, phase };
                 push_row(&mut self.servers, server, MAX_SERVERS, word)?;
             }
             "task" => {
-                let [home, degraded, priority, level, n, d1, d2, separation] =
-                    fields(word, &with_last_number(numbers))?;
+                let [home, degraded, priority, level, n, d1, d2] = fields(word, numbers)?;
                 let level = one(&[Level::Lo, Level::Mi, Level::Hi], level, "level")?;
-                let limit = [n, d1, d2];
-                let task = Task { home, degraded, priority, level, limit, separation };
+                let task = Task { home, degraded, priority, level, limit: [n, d1, d2] };
                 push_row(&mut self.tasks, task, MAX_TASKS, word)?;
             }
             "state" => {
@@ -227,14 +226,8 @@ impl Block {
             capacity: [0; 3],
             phase: 0,
         };
-        let blank_task = Task {
-            home: 0,
-            degraded: 0,
-            priority: 0,
-            level: Level::Lo,
-            limit: [0; 3],
-            separation: 0,
-        };
+        let blank_task =
+            Task { home: 0, degraded: 0, priority: 0, level: Level::Lo, limit: [0; 3] };
         let server_rows = (self.server_count as usize).min(MAX_SERVERS + 1);
         let task_rows = (self.task_count as usize).min(MAX_TASKS + 1);
         self.servers.resize(server_rows, blank_server);
@@ -259,16 +252,6 @@ impl Block {
     }
 }
 
-/// The numbers of a server or task line. The eighth of them, phase or separation, may
-/// be absent and is then 0.
-fn with_last_number(numbers: &[u64]) -> Vec<u64> {
-    let mut numbers = numbers.to_vec();
-    if numbers.len() == 7 {
-        numbers.push(0);
-    }
-    numbers
-}
-
 pub(crate) fn push_row<T>(
     rows: &mut Vec<T>,
     row: T,
@@ -288,11 +271,9 @@ pub(crate) fn push_row<T>(
 fn apply(mut run: Run, operation: Operation, out: &mut String) -> Result<(), u8> {
     let sound = match operation {
         Operation::Release(_) | Operation::Tick(_) | Operation::FitsState => run.is_sound(),
-        Operation::Fresh
-        | Operation::Verdict(..)
-        | Operation::Write(_)
-        | Operation::Fits
-        | Operation::Response(_) => run.table.keeps_the_rules(),
+        Operation::Fresh | Operation::Verdict(..) | Operation::Write(_) | Operation::Fits => {
+            run.table.keeps_the_rules()
+        }
     };
     if !sound {
         return Err(UNSOUND);
@@ -334,15 +315,6 @@ fn apply(mut run: Run, operation: Operation, out: &mut String) -> Result<(), u8>
             None => push_line(out, &[&"fits", &1, &0, &0]),
             Some((mode, row)) => push_line(out, &[&"fits", &0, &mode.index(), &row]),
         },
-        Operation::Response(task) => {
-            if task >= run.table.tasks.len() as u64 {
-                return Err(No::NoSuchTask.number());
-            }
-            match response::response(&run.table, task as usize)? {
-                None => push_line(out, &[&"response", &0, &0]),
-                Some(w) => push_line(out, &[&"response", &1, &w]),
-            }
-        }
     }
     Ok(())
 }

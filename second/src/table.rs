@@ -7,7 +7,6 @@ pub const MAX_PARTITION: u32 = 15;
 pub const MAX_PRIORITY: u32 = 255;
 pub const MAX_PERIOD: u32 = 1_000_000;
 pub const MAX_LIMIT: u32 = 100_000;
-pub const MAX_SEPARATION: u32 = 1_000_000;
 
 /// The three modes; a mode indexes the capacities and limits of a row.
 #[derive(Clone, Copy, Debug, PartialEq, Eq)]
@@ -128,7 +127,7 @@ impl Server {
     }
 }
 
-/// A task row. Limits and separation are in ticks.
+/// A task row. Limits are in ticks.
 #[derive(Clone, Debug, PartialEq, Eq)]
 pub struct Task {
     pub home: u32,
@@ -136,8 +135,6 @@ pub struct Task {
     pub priority: u32,
     pub level: Level,
     pub limit: [u32; 3],
-    /// The least separation between releases; 0 if the row has none.
-    pub separation: u32,
 }
 
 impl Task {
@@ -184,7 +181,6 @@ impl Table {
             && (1..=MAX_LIMIT).contains(&d2)
             && n <= d1
             && d1 <= d2
-            && task.separation <= MAX_SEPARATION
             && misfit(&self.servers, u64::from(task.home), u64::from(task.degraded)).is_none()
     }
 }

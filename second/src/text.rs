@@ -6,7 +6,7 @@ use std::fmt;
 use crate::number;
 use crate::table::{
     misfit, Kind, Level, Misfit, Server, Table, Task, MAX_LIMIT, MAX_PARTITION, MAX_PERIOD,
-    MAX_PRIORITY, MAX_SEPARATION, MAX_SERVERS, MAX_TASKS, MAX_TICK_LENGTH,
+    MAX_PRIORITY, MAX_SERVERS, MAX_TASKS, MAX_TICK_LENGTH,
 };
 
 /// The most bytes a table text may have.
@@ -127,7 +127,6 @@ struct TaskLine {
     priority: u64,
     level: Level,
     limit: [u64; 3],
-    separation: Option<u64>,
 }
 
 // The fields of a line stand behind its leading word, so that a field's place
@@ -156,17 +155,14 @@ fn parse_server(fields: &[&[u8]]) -> Result<ServerLine, Fault> {
     })
 }
 
-/// The separation is a last field that may be absent.
 fn parse_task(fields: &[&[u8]]) -> Result<TaskLine, Fault> {
-    let has_separation = fields.len() == 1 + 8;
-    expect_fields(fields, if has_separation { 8 } else { 7 })?;
+    expect_fields(fields, 7)?;
     Ok(TaskLine {
         home: number_at(fields, 1)?,
         degraded: number_at(fields, 2)?,
         priority: number_at(fields, 3)?,
         level: Level::from_word(fields[4]).ok_or(Fault::new(MALFORMED, 4))?,
         limit: [number_at(fields, 5)?, number_at(fields, 6)?, number_at(fields, 7)?],
-        separation: if has_separation { Some(number_at(fields, 8)?) } else { None },
     })
 }
 
@@ -282,7 +278,7 @@ impl Reader {
     }
 
     fn take_task(&mut self, line: TaskLine, tick: u64) -> Result<(), Fault> {
-        let TaskLine { home, degraded, priority, level, limit, separation } = line;
+        let TaskLine { home, degraded, priority, level, limit } = line;
 
         // Limits are rounded up to ticks before anything is compared.
         let limit = limit.map(|time| time.div_ceil(tick));
@@ -295,11 +291,8 @@ impl Reader {
                 (5, limit_in_bounds(n)),
                 (6, limit_in_bounds(d1)),
                 (7, limit_in_bounds(d2)),
-                (8, separation.is_none_or(|time| separation_in_bounds(time, tick))),
             ],
         )?;
-        let separation = separation.unwrap_or(0);
-        expect(NOT_WHOLE_TICKS, &[(8, separation % tick == 0)])?;
         if let Some(misfit) = misfit(&self.servers, home, degraded) {
             return Err(fault_of(misfit));
         }
@@ -311,7 +304,6 @@ impl Reader {
             priority: priority as u32,
             level,
             limit: limit.map(|ticks| ticks as u32),
-            separation: (separation / tick) as u32,
         });
         Ok(())
     }
@@ -332,11 +324,6 @@ pub(crate) fn priority_in_bounds(priority: u64) -> bool {
 
 pub(crate) fn limit_in_bounds(ticks: u64) -> bool {
     ticks >= 1 && ticks <= u64::from(MAX_LIMIT)
-}
-
-/// Both in microseconds: the separation from one tick on.
-fn separation_in_bounds(time: u64, tick: u64) -> bool {
-    time >= tick && time <= u64::from(MAX_SEPARATION) * tick
 }
 
 /// Home and degraded server are fields 1 and 2 of a task. Where the two do not
@@ -389,7 +376,7 @@ fn first_equal_pair(priorities: &[u32]) -> Option<(usize, usize)> {
 }
 
 /// Writes a table that keeps the rules, in microseconds, from the ticks held. A
-/// phase of 0 is left out, and so is the separation of a task that has none.
+/// phase of 0 is left out.
 pub fn write(table: &Table) -> String {
     let in_microseconds = |ticks: u32| u64::from(ticks) * u64::from(table.tick);
 
@@ -411,16 +398,12 @@ pub fn write(table: &Table) -> String {
     for task in &table.tasks {
         let [n, d1, d2] = task.limit.map(in_microseconds);
         text.push_str(&format!(
-            "task\t{}\t{}\t{}\t{}\t{n}\t{d1}\t{d2}",
+            "task\t{}\t{}\t{}\t{}\t{n}\t{d1}\t{d2}\n",
             task.home,
             task.degraded,
             task.priority,
             task.level.word(),
         ));
-        if task.separation > 0 {
-            text.push_str(&format!("\t{}", in_microseconds(task.separation)));
-        }
-        text.push('\n');
     }
     text
 }

@@ -21,14 +21,7 @@ fn two_servers(higher: (Kind, u32, u32), lower: (Kind, u32, u32)) -> Table {
     let table = Table {
         tick: 1000,
         servers: vec![server(higher, 2), server(lower, 1)],
-        tasks: vec![Task {
-            home: 1,
-            degraded: 1,
-            priority: 1,
-            level: Level::Hi,
-            limit: [1; 3],
-            separation: 0,
-        }],
+        tasks: vec![Task { home: 1, degraded: 1, priority: 1, level: Level::Hi, limit: [1; 3] }],
     };
     assert!(table.keeps_the_rules());
     table

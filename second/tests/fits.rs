@@ -25,14 +25,7 @@ fn table(servers: &[(Kind, u32, u32, [u32; 3])]) -> Table {
         })
         .collect();
     let last = servers.len() as u32 - 1;
-    let task = Task {
-        home: last,
-        degraded: last,
-        priority: 1,
-        level: Level::Hi,
-        limit: [1, 1, 1],
-        separation: 0,
-    };
+    let task = Task { home: last, degraded: last, priority: 1, level: Level::Hi, limit: [1, 1, 1] };
     let table = Table { tick: 1000, servers, tasks: vec![task] };
     assert!(table.keeps_the_rules(), "{table:?}");
     table

@@ -77,10 +77,6 @@ fn mistakes_in_the_arguments_and_files() {
     fails(&["fits", &table, &table]);
     fails(&["fits", "no such file"]);
     fails(&["fits", folder]);
-    fails(&["responses"]);
-    fails(&["responses", &table, &table]);
-    fails(&["responses", "no such file"]);
-    fails(&["responses", folder]);
     let frame = file("frame-for-mistakes", FRAME.as_bytes());
     fails(&["frame"]);
     fails(&["frame", &frame]);
@@ -128,11 +124,6 @@ fn answers_are_printed() {
     prints(&["night", &table, "-"], b"", "");
     prints(&["fits", &table], b"", "yes\n");
     prints(&["fits", "-"], EXAMPLE.as_bytes(), "yes\n");
-    let none = "0\tno\t14\n1\tno\t14\n2\tno\t14\n";
-    prints(&["responses", &table], b"", none);
-    let separated = EXAMPLE.replace("\t4000\t4000\n", "\t4000\t4000\t60000\n");
-    let separated = separated.replace("2000\t2000\t2000\n", "2000\t2000\t2000\t65000\n");
-    prints(&["responses", "-"], separated.as_bytes(), "0\tno\t14\n1\t33\n2\tmisses\n");
     for (from, to, miss) in [
         ("8000\t8000\t4000", "21000\t27000\t4000", "no\tN\t2\n"),
         ("8000\t8000\t4000", "8000\t27000\t4000", "no\tD1\t2\n"),
@@ -140,7 +131,7 @@ fn answers_are_printed() {
     ] {
         prints(&["fits", "-"], EXAMPLE.replace(from, to).as_bytes(), miss);
     }
-    for program in ["verdicts", "fits", "responses", "rewrite"] {
+    for program in ["verdicts", "fits", "rewrite"] {
         prints(&[program, "-"], b"", "table\tno\t1\t1\t0\n");
         prints(&[program, "-"], &[b'\n'; 16_385], "table\tno\t2\t0\t0\n");
     }
@@ -152,7 +143,7 @@ fn every_program_tells_the_field() {
     let events = file("events-for-fields", b"T\t0\n");
     let refusals = [
         (("timed\t10\t40000", "timed\t10\t040000"), "1\t4\t4"),
-        (("task\t0\t1", "task\t0\t1\t1\t1"), "1\t5\t0"),
+        (("task\t0\t1", "task\t0\t1\t1"), "1\t5\t0"),
         (("8000\t8000\t4000", "8000\t8000\t40001"), "2\t4\t7"),
         (("8000\t8000\t4000", "8000\t8001\t4000"), "3\t4\t6"),
         (("task\t0\t1", "task\t0\t3"), "41\t5\t2"),
@@ -169,7 +160,7 @@ fn every_program_tells_the_field() {
         for program in ["night", "report"] {
             prints(&[program, "-", &events], &table, &line);
         }
-        for program in ["verdicts", "fits", "responses", "rewrite"] {
+        for program in ["verdicts", "fits", "rewrite"] {
             prints(&[program, "-"], &table, &line);
         }
     }

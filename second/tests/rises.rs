@@ -21,14 +21,7 @@ fn at_limit(level: Level, limit: [u32; 3], mode: Mode, others: &[Level]) -> Run 
         capacity: [90; 3],
         phase: 0,
     };
-    let task = |priority, level, limit| Task {
-        home: 0,
-        degraded: 0,
-        priority,
-        level,
-        limit,
-        separation: 0,
-    };
+    let task = |priority, level, limit| Task { home: 0, degraded: 0, priority, level, limit };
     let mut tasks = vec![task(9, level, limit)];
     let mut queues = vec![Queue { waiting: 1, run: limit[mode.index()] }];
     for (priority, &other) in (1..8).rev().zip(others) {

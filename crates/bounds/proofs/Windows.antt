@@ -44,21 +44,6 @@ window_full f s zero h = omega arith
 window_full f s (suc w) h =
     rw (window_next f s w) (omega (arith, window_full f s w (λ x l. h x (omega arith)), h w (omega arith)))
 
--- at most one at each time: no more than the window is long
-pub window_most : (f : ℕ → ℕ) (s w : ℕ) → ((x : ℕ) → x < w → f (s + x) ≤ 1) → window f s w ≤ w
-window_most f s zero h = omega (arith, window_none f s)
-window_most f s (suc w) h =
-    rw (window_next f s w) (omega (arith, window_most f s w (λ x l. h x (omega arith)), h w (omega arith)))
-
--- exactly one at each time: as much as the window is long
-pub window_ones : (f : ℕ → ℕ) (s w : ℕ) → ((x : ℕ) → x < w → f (s + x) ≡ 1) → window f s w ≡ w
-window_ones f s w h =
-    omega (
-      arith,
-      window_most f s w (λ x l. omega (arith, h x l)),
-      window_full f s w (λ x l. omega (arith, h x l)),
-    )
-
 -- over rows and over time, in either order
 pub window_rows : (n : ℕ) (f : ℕ → ℕ → ℕ) (s w : ℕ) →
     window (λ x. sum_below n (λ j. f j x)) s w ≡ sum_below n (λ j. window (f j) s w)

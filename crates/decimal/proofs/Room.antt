@@ -4,7 +4,7 @@ use Rattle.std.proofs.Common.{◌≡◌, ℕ, suc, ◌+◌, ◌-◌, ◌*◌, �
 use lib.Seq.{sets, length-sets, sets-eq, set_out, set_comm}
 use Rattle.laws.proofs.Choice.{le_or_lt}
 use Rattle.decimal.specs.Number.{digits}
-use Rattle.decimal.specs.Lines.{tab, line_feed, join, closed, row_lines}
+use Rattle.decimal.specs.Lines.{tab, line_feed, join, closed}
 use Rattle.decimal.specs.Room.{Put, Spelled, most_digits, spelled}
 use Rattle.decimal.proofs.Numbers.{digits_one, digits_more, digits_some, digits_length}
 use Rattle.decimal.proofs.Lines.{closed_append}
@@ -175,13 +175,3 @@ module _ {d : List ℕ} {at : ℕ} {e : List ℕ} {k : ℕ} {f : List ℕ} {r : 
   pub put_lines : (ks ls : List (List ℕ)) → Put (closed ks) d at e k → Put (closed ls) e k f r →
       Put (closed (ks ++ ls)) d at f r
   put_lines ks ls a b = put_as (sym (closed_append ks ls)) (put_more (closed ks) (closed ls) a b)
-
-  -- a line for each row: one row more
-  pub rows_next : (line : ℕ → List ℕ) (i : ℕ) → Put (closed (row_lines line i)) d at e k →
-      Put (closed (line i ∷ [])) e k f r → Put (closed (row_lines line (i + 1))) d at f r
-  unfolding row_lines
-  rows_next line i p q = rw (add-one i) (put_lines (row_lines line i) (line i ∷ []) p q)
-
-pub rows_none : (line : ℕ → List ℕ) (d : List ℕ) (at : ℕ) → Put (closed (row_lines line 0)) d at d at
-unfolding row_lines closed
-rows_none line d at = put_none d at

@@ -1,6 +1,6 @@
 -- 01, Tables: "Text is lines parted by tabs, each closed by a line feed, the last too". Event lines
 -- and printed answers are parted and closed alike.
-use Rattle.std.specs.Prelude.{ℕ, zero, suc, Bool, true, false, ◌&&◌, List, [], ◌∷◌, ◌++◌, ◌==◌}
+use Rattle.std.specs.Prelude.{ℕ, Bool, true, false, ◌&&◌, List, [], ◌∷◌, ◌++◌, ◌==◌}
 
 abbrev pub tab : ℕ
 tab = 9
@@ -29,11 +29,6 @@ join b (p ∷ (q ∷ ps)) = p ++ (b ∷ join b (q ∷ ps))
 unfoldable pub closed : List (List ℕ) → List ℕ
 closed [] = []
 closed (l ∷ ls) = l ++ (line_feed ∷ closed ls)
-
--- a line for each of the first n rows
-unfoldable pub row_lines : (ℕ → List ℕ) → ℕ → List (List ℕ)
-row_lines line zero = []
-row_lines line (suc n) = row_lines line n ++ (line n ∷ [])
 
 -- equal byte by byte
 unfoldable pub same : List ℕ → List ℕ → Bool

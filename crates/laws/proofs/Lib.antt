@@ -5,4 +5,3 @@ pub mod Highest
 pub mod Anew
 pub mod RoundUp
 pub mod Climb
-pub mod Supply

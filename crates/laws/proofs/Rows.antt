@@ -4,14 +4,14 @@ use mathlib.Core.Path.{◌≡◌, refl, sym, ap, ◌∙◌}
 use mathlib.Core.Bool.{Bool, true, false}
 use mathlib.Core.List.{List}
 use mathlib.Core.Logic.{◌⊎◌, inl, inr}
-use Prim.Native.Nat.{ℕ, zero, suc, ◌+◌, ◌*◌, ◌≤◌, ◌<◌}
+use Prim.Native.Nat.{ℕ, zero, suc, ◌+◌, ◌≤◌, ◌<◌}
 use native.Mathlib.Omega.{arith}
 use native.Mathlib.Numerals.{add-one}
-use lib.ListN.{length, get_or, set, replicate, length-set, length-replicate, get_or-replicate}
-use lib.Seq.{ext_get_or, get_or-set_same, get_or-set_other}
+use lib.ListN.{length, get_or}
+use lib.Seq.{ext_get_or}
 use borrow.Author.Count.{below_more}
 use Rattle.laws.specs.Rows.{all_below, any_below, sum_below, listed}
-use Rattle.laws.proofs.Choice.{clash, and_left, and_right, and_true, or_cases, or_false, true_or_false, le_or_lt}
+use Rattle.laws.proofs.Choice.{clash, and_left, and_right, and_true, or_cases, or_false, true_or_false}
 
 -- one row more, as a definition and as a loop has it
 pub upto : (P : ℕ → Type 0) (n : ℕ) → ((j : ℕ) → j < n → P j) → P n → (j : ℕ) → j < suc n → P j
@@ -105,12 +105,6 @@ unfolding sum_below
 sum_zero f zero h = refl
 sum_zero f (suc n) h = omega (arith, sum_zero f n (λ k l. h k (omega arith)), h n (omega arith))
 
--- rows that add at most b each
-pub sum_most : (f : ℕ → ℕ) (b n : ℕ) → ((k : ℕ) → k < n → f k ≤ b) → sum_below n f ≤ n * b
-unfolding sum_below
-sum_most f b zero h = omega arith
-sum_most f b (suc n) h = omega (arith, sum_most f b n (λ k l. h k (omega arith)), h n (omega arith))
-
 -- a row's part is at most the sum
 pub sum_part : (f : ℕ → ℕ) (n k : ℕ) → k < n → f k ≤ sum_below n f
 unfolding sum_below
@@ -135,40 +129,3 @@ pub is_listed : {A : Type 0} (n : ℕ) (f : ℕ → A) (d : A) (xs : List A) →
 is_listed n f d xs e rows =
     ext_get_or d xs (listed n f) (e ∙ sym (length_listed n f))
     (λ i h. let l : i < n = omega (arith, e) in rows i l ∙ sym (listed_at n f i d l))
-
--- As a loop writes it over a list that holds d everywhere: the first i rows are written.
-pub record Written {A : Type 0} (n : ℕ) (f : ℕ → A) (d : A) (i : ℕ) (xs : List A) : Type 0 where
-  pub long : length xs ≡ n
-  pub rows : (k : ℕ) → k < i → get_or xs k d ≡ f k
-  pub rest : (k : ℕ) → i ≤ k → k < n → get_or xs k d ≡ d
-
-module _ {A : Type 0} (n : ℕ) (f : ℕ → A) (d : A) where
-  pub none_written : Written n f d 0 (replicate n d)
-  none_written =
-      record {
-        long = length-replicate n d;
-        rows = λ k h. absurd (omega arith);
-        rest = λ k h l. get_or-replicate n k d d l;
-      }
-
-  pub row_written : (i : ℕ) (xs : List A) (x : A) → i < n → Written n f d i xs → x ≡ f i → Written n f d (i + 1) (set xs i x)
-  row_written i xs x h w e =
-      let same : get_or (set xs i x) i d ≡ f i = get_or-set_same xs i x d (omega (arith, w.long)) ∙ e in
-      record {
-        long = length-set xs i x ∙ w.long;
-        rows =
-            below_more (λ k. get_or (set xs i x) k d ≡ f k) i
-            (λ k l. get_or-set_other xs i k x d (λ q. omega arith) ∙ w.rows k l) same;
-        rest = λ k l m. get_or-set_other xs i k x d (λ q. omega arith) ∙ w.rest k (omega arith) m;
-      }
-
-  -- where d is what the rows not written should be
-  pub all_written : (i : ℕ) (xs : List A) → Written n f d i xs → ((k : ℕ) → i ≤ k → k < n → d ≡ f k) → xs ≡ listed n f
-  all_written i xs w absent = is_listed n f d xs w.long (λ k h. row k h (le_or_lt i k))
-    where
-      row : (k : ℕ) → k < n → (i ≤ k) ⊎ (k < i) → get_or xs k d ≡ f k
-      row k h (inl l) = w.rest k l h ∙ absent k l h
-      row k h (inr l) = w.rows k l
-
-  pub same_everywhere : ((k : ℕ) → k < n → d ≡ f k) → replicate n d ≡ listed n f
-  same_everywhere h = all_written 0 (replicate n d) none_written (λ k l m. h k m)

@@ -50,14 +50,6 @@ searched_one p r n a b (miss z) (miss w) = refl
 pub is_least : (p : ℕ → Bool) (r n : ℕ) (a : Found) → Searched p r n a → a ≡ least p r n
 is_least p r n a s = searched_one p r n a (least p r n) s (least_is p r n)
 
--- two tests that say the same of each number find the same
-searched_same : (p q : ℕ → Bool) → ((x : ℕ) → p x ≡ q x) → (r n : ℕ) (a : Found) → Searched p r n a → Searched q r n a
-searched_same p q e r n a (hit x l u t z) = hit x l u (sym (e x) ∙ t) (λ y b c. sym (e y) ∙ z y b c)
-searched_same p q e r n a (miss z) = miss (λ y b c. sym (e y) ∙ z y b c)
-
-pub least_same : (p q : ℕ → Bool) → ((x : ℕ) → p x ≡ q x) → (r n : ℕ) → least p r n ≡ least q r n
-least_same p q e r n = is_least q r n (least p r n) (searched_same p q e r n (least p r n) (least_is p r n))
-
 pub found_passes : (p : ℕ → Bool) (r n x : ℕ) → least p r n ≡ At x → (p x ≡ true) × (r ≤ x) × (x < r + n)
 found_passes p r n x e = go (least p r n) e (least_is p r n)
   where

@@ -3,4 +3,3 @@ pub mod Search
 pub mod Rows
 pub mod RoundUp
 pub mod Quoted
-pub mod Supply

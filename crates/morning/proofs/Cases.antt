@@ -22,7 +22,7 @@ use Rattle.table.specs.Rules.{table_keeps, keeps, server_keeps, task_keeps, task
 use Rattle.table.specs.Pairs.{later_equal, first_pair}
 use Rattle.text.specs.Words.{tick_word, server_word, task_word, event_word, timed_word, lo_word, mi_word, hi_word}
 use Rattle.text.specs.Line.{tick_form, server_form, task_form, field_tests, form_tests, line_by, line_of, read_line}
-use Rattle.text.specs.Standing.{placed, server_bounds, task_bounds, bounds, server_whole, task_whole, wholes, fault, standing, grown}
+use Rattle.text.specs.Standing.{placed, server_bounds, task_bounds, bounds, server_whole, wholes, fault, standing, grown}
 use Rattle.text.specs.Read.{compared, ended, read, shown}
 use Rattle.events.specs.declared.Event.{Event}
 use Rattle.events.specs.declared.Event.TheVariants.{Release, Tick}
@@ -79,7 +79,7 @@ unfolding
     every least first_failed first_of up all_below any_below sum_below highest anew are_digits number_form is_number worth_from digits_in
     digits split join closed same table_of table_keeps keeps server_keeps task_keeps task_fault task_stands differ later_equal
     first_pair tick_word server_word task_word event_word timed_word lo_word mi_word hi_word tick_form server_form
-    task_form field_tests form_tests line_by line_of read_line placed server_bounds task_bounds bounds server_whole task_whole wholes fault standing grown
+    task_form field_tests form_tests line_by line_of read_line placed server_bounds task_bounds bounds server_whole wholes fault standing grown
     compared ended read shown in_force waits some_waits
     sound sound_state sound_server sound_task sound_last sound_counts release_of judge step1
     drops discards step2 step3 step4 settle able highest_able highest_task choose advance tick_taken tick_of after_in

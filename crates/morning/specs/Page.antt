@@ -1,10 +1,9 @@
 -- 02, No. 1, A morning report: "one page for each night's event file". A line for each server, for
 -- each task and for each mode, parted by tabs, each closed by a line feed.
-use Rattle.std.specs.Prelude.{List, [], ◌∷◌, ◌++◌, ℕ}
+use Rattle.std.specs.Prelude.{List, [], ◌∷◌, ◌++◌, ℕ, zero, suc}
 use Rattle.laws.specs.Quoted.{bytes}
 use Rattle.decimal.specs.Number.{digits}
 use Rattle.decimal.specs.Lines.{closed}
-unfoldable pub use Rattle.decimal.specs.Lines.{row_lines}
 use Rattle.table.specs.declared.Mode.{Mode}
 use Rattle.table.specs.declared.Mode.TheVariants.{N, D1, D2}
 use Rattle.text.specs.declared.Reading.{Reading}
@@ -38,6 +37,11 @@ task_line k n =
 -- `mode⇥N⇥ticks`
 abbrev pub mode_line : Mode → ℕ → List ℕ
 mode_line m n = printed (bytes "mode" ∷ mode_word m ∷ digits n ∷ [])
+
+-- a line for each of the first n rows
+unfoldable pub row_lines : (ℕ → List ℕ) → ℕ → List (List ℕ)
+row_lines line zero = []
+row_lines line (suc n) = row_lines line n ++ (line n ∷ [])
 
 -- The page of these numbers: first the servers, then the tasks, then the modes.
 unfoldable pub page_lines : ℕ → ℕ → (ℕ → ServerNumbers) → (ℕ → TaskNumbers) → (Mode → ℕ) → List (List ℕ)

@@ -7,7 +7,6 @@ pub mod FrameTable
 pub mod Reader
 pub mod Writer
 pub mod Verdict
-pub mod Response
 pub mod Events
 pub mod Queues
 pub mod Lines

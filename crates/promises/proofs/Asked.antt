@@ -11,13 +11,13 @@ use native.Mathlib.Omega.{arith}
 use native.Mathlib.Nat.{add-zero}
 use lib.Dec.{leb, ltb, eqb, leb-suc-suc}
 use lib.ListN.{length, get_or}
-use borrow.Author.Tests.{eqb-true, eq-eqb, ltb-true, ltb-false, lt-ltb, le-ltb}
+use borrow.Author.Tests.{eqb-true, eq-eqb, lt-ltb, le-ltb}
 use Rattle.laws.specs.declared.Found.{Found}
 use Rattle.laws.specs.declared.Found.TheVariants.{At, Nothing}
 use Rattle.laws.specs.Choice.{if◌then◌else◌, unless◌say◌else◌, within}
 use Rattle.laws.specs.Search.{first_failed}
 use Rattle.laws.proofs.Choice.{clash, true_or_false, and_left, and_right, or_true_left}
-use Rattle.laws.proofs.Choice.{if_ind, or_true_right, or_cases}
+use Rattle.laws.proofs.Choice.{or_true_right, or_cases}
 use Rattle.laws.proofs.Choice.{within_low, within_high, is_within, le_or_lt}
 use Rattle.laws.proofs.Search.{failed_empty, failed_here, one_past, failed_past}
 use Rattle.decimal.specs.Number.{is_number, worth}
@@ -42,14 +42,13 @@ use Rattle.text.specs.declared.Line.{Line}
 use Rattle.text.specs.declared.Line.TheVariants.{OfTick, OfServer, OfTask}
 use Rattle.text.specs.Words.{event_word, timed_word, is_kind, lo_word, mi_word, hi_word, is_level}
 use Rattle.text.specs.Line.{Expected, fits, Form, tick_form, server_form, task_form}
-use Rattle.text.specs.Line.{field_tests, form_tests, field_at, micros_at, last_at, server_said, task_said}
-use Rattle.text.specs.Line.{leading, word_of, malformed_at, said_unless, formed, line_by, line_of, read_line}
-use Rattle.text.specs.Standing.{is_nil, last_said, limits_of, placed, server_bounds, separation_bound}
-use Rattle.text.specs.Standing.{task_bounds, bounds, server_whole, task_whole, wholes, fault}
-use Rattle.text.specs.Standing.{tell◌at◌or◌, standing}
+use Rattle.text.specs.Line.{field_tests, form_tests, field_at, micros_at, server_said, task_said, leading}
+use Rattle.text.specs.Line.{word_of, malformed_at, said_unless, formed, line_by, line_of, read_line}
+use Rattle.text.specs.Standing.{is_nil, phase_said, limits_of, placed, server_bounds, task_bounds, bounds}
+use Rattle.text.specs.Standing.{server_whole, wholes, fault, tell◌at◌or◌, standing}
 use Rattle.promises.specs.Condition1.{Asked, no◌at◌unless◌, Tells, Gives, IsNumber, IsKind}
 use Rattle.promises.specs.Condition1.{IsLevel, kind_at, partition_at, fault_asked, asked_by}
-use Rattle.promises.specs.Condition1.{Within, line_asked, EachFault}
+use Rattle.promises.specs.Condition1.{line_asked, EachFault}
 use Rattle.promises.proofs.Tests.{Tests, is_le, is_lt, is_eq, is_in, both, ◌and◌}
 
 -- what is told of a standing is what its questions tell
@@ -309,24 +308,12 @@ fault_told ss home degraded limit =
     (ask (leb limit.d1.0 limit.d2.0) Falling 7 (is_le limit.d1.0 limit.d2.0)
     kept))))))
 
--- a separation, where the line goes so far
-separation : (t : ℕ) (fs : List (List ℕ)) →
-    Tests (separation_bound t (last_at fs 8)) (8 ≤ length fs → Within t (1000000 * t) (last_said (last_at fs 8)).0)
-separation t fs =
-    if_ind
-    (λ p. Tests (separation_bound t p) (8 ≤ length fs → Within t (1000000 * t) (last_said p).0))
-    (ltb (length fs) 8)
-    (λ e. (λ q h. absurd (omega (arith, ltb-true (length fs) 8 e)), λ f. refl))
-    (λ e.
-    let s = is_in t (1000000 * t) (worth (field_at fs 8)) in
-    (λ q h. s.0 q, λ f. s.1 (f (ltb-false (length fs) 8 e))))
-
 -- each line, by its leading word
 word_told : (n : ℕ) (a : Rows) (fs : List (List ℕ)) (word : Word) →
     Told (standing n a (line_by word fs)) (asked_by word n a fs)
 unfolding
     line_by tick_form server_form task_form placed bounds server_bounds task_bounds wholes server_whole
-    task_whole fault standing
+    fault standing
 word_told n a fs ATick =
     formed_told n a tick_form fs (OfTick (micros_at fs 1)) refl (is_eq n 1)
     (as_many_lem 1 (length fs) also number (field_at fs 1) also none)
@@ -336,7 +323,7 @@ word_told n a fs AServer =
     let s = server_said fs in
     let t = a.tick.0 in
     let p = s.period.0 in
-    let q = (last_said s.phase).0 in
+    let q = (phase_said s.phase).0 in
     formed_told n a server_form fs (OfServer s) refl
     (both (ltb 1 n) (is_nil a.tasks) (is_lt 1 n) (empty a.tasks))
     (is_in 7 8 (length fs)
@@ -374,10 +361,9 @@ word_told n a fs AServer =
     kept))
 word_told n a fs ATask =
     let k = task_said fs in
-    let t = a.tick.0 in
-    let limit = limits_of t k.limit in
+    let limit = limits_of a.tick.0 k.limit in
     formed_told n a task_form fs (OfTask k) refl (some a.servers)
-    (is_in 7 8 (length fs)
+    (as_many_lem 7 (length fs)
     also number (field_at fs 1)
     also number (field_at fs 2)
     also number (field_at fs 3)
@@ -385,7 +371,6 @@ word_told n a fs ATask =
     also number (field_at fs 5)
     also number (field_at fs 6)
     also number (field_at fs 7)
-    also where_so (ltb 7 (length fs)) (is_lt 7 (length fs)) (number (field_at fs 8))
     also none)
     (asked OutOfBounds
     (is_lt (length a.tasks) 64
@@ -396,16 +381,8 @@ word_told n a fs ATask =
     (is_in 1 100000 limit.n.0
     also is_in 1 100000 limit.d1.0
     also is_in 1 100000 limit.d2.0
-    also separation t fs
     also none))))
-    (asked NotWhole
-    (unasked
-    (unasked
-    (unasked
-    (unasked
-    (unasked
-    (unasked (unasked (unasked (is_eq ((last_said k.separation).0 % t) 0 also none)))))))))
-    (fault_told a.servers k.home k.degraded limit)))
+    (asked NotWhole none (fault_told a.servers k.home k.degraded limit)))
 word_told n a fs Unknown = ask false Malformed 0 (λ e. clash false e refl, λ e. absurd e) kept
 
 pub line_told_lem : (n : ℕ) (a : Rows) (line : List ℕ) →

@@ -314,8 +314,7 @@ pub table_lines : TableLines
 unfolding opened
 table_lines =
     refl and refl and refl and refl and refl and refl and refl and refl and refl and refl and refl
-    and refl and refl and refl and refl and refl and refl and refl and refl and refl and refl and refl
-    and refl and refl and tt
+    and refl and refl and refl and refl and refl and refl and refl and refl and refl and tt
 
 pub degraded_lines : DegradedLines
 unfolding opened

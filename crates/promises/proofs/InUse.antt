@@ -1,40 +1,30 @@
 -- What is answered rests on the rows in use alone: so does each test of an event, and what a tick
 -- does is settled by its rules. Assumes nothing.
 use mathlib.Core.Path.{fun_ext, ◌≡◌, refl, ap, ap₂, sym, ◌∙◌}
-use mathlib.Core.Bool.{Bool, true, false, not, ◌&&◌, ◌||◌}
+use mathlib.Core.Bool.{Bool, true, not, ◌&&◌, ◌||◌}
 use mathlib.Core.List.{List, [], ◌∷◌}
-use mathlib.Core.Logic.{◌⊎◌, inl, inr}
-use Prim.Native.Nat.{ℕ, ◌+◌, ◌*◌, ◌≤◌, ◌<◌}
+use mathlib.Core.Logic.{inl, inr}
+use Prim.Native.Nat.{ℕ, ◌+◌, ◌≤◌, ◌<◌}
 use native.Mathlib.Omega.{arith}
 use lib.Dec.{leb, ltb, eqb}
-use lib.ListN.{get_or}
-use lib.Seq.{get_or-take}
 use borrow.Author.Tests.{ltb-true, le-ltb, lt-ltb}
 use Rattle.laws.specs.declared.Found.TheVariants.{At}
-use Rattle.laws.specs.Choice.{if◌then◌else◌, unless◌say◌else◌, every, within}
+use Rattle.laws.specs.Choice.{if◌then◌else◌, every, within}
 use Rattle.laws.specs.Search.{least}
 use Rattle.laws.specs.Rows.{all_below, sum_below}
-use Rattle.laws.specs.RoundUp.{up}
-use Rattle.laws.specs.Supply.{supply}
-use Rattle.laws.proofs.Choice.{le_or_lt, true_or_false}
+use Rattle.laws.proofs.Choice.{le_or_lt}
 use Rattle.laws.proofs.Rows.{all_cong, sum_cong}
 use Rattle.table.specs.declared.Mode.{Mode}
-use Rattle.table.specs.declared.Mode.TheVariants.{N}
-use Rattle.table.specs.declared.Refusal.TheVariants.{NoResponse, Unsound}
 use Rattle.table.specs.declared.Server.{Server}
 use Rattle.table.specs.declared.Task.{Task}
 use Rattle.units.specs.declared.Ticks.{Ticks}
 use Rattle.table.specs.declared.Table.{Table}
-use Rattle.table.specs.Rows.{Rows, no_task, server_at, task_at, home_at, priority_at, in_mode, is_timed, is_low, is_d2}
+use Rattle.table.specs.Rows.{priority_at, in_mode, is_low, is_d2}
 use Rattle.table.specs.Rules.{keeps, table_keeps}
-use Rattle.table.specs.Inner.{Sized}
 use Rattle.table.proofs.Rules.{table_rules}
 use Rattle.text.specs.Write.{wrote}
-use Rattle.verdict.specs.declared.Verdict.{Verdict}
-use Rattle.verdict.specs.declared.Verdict.TheVariants.{No}
-use Rattle.verdict.specs.Verdict.{interference, meets, response_at, told, verdict_of}
+use Rattle.verdict.specs.Verdict.{interference, meets, response_at, verdict_of}
 use Rattle.verdict.proofs.Interference.{interference_above}
-use Rattle.response.specs.Response.{is_above, load, carried, serves, all_apart, response_of}
 use Rattle.queues.specs.declared.Last.{Last}
 use Rattle.queues.specs.declared.Last.TheVariants.{NoJob, Job}
 use Rattle.events.specs.Boxes.{after_in, answers_in}
@@ -56,7 +46,7 @@ use Rattle.run.proofs.Shape.{RunShaped, event_run_shaped}
 use Rattle.run.proofs.Sound.{sound_table, sound_state_lem}
 use Rattle.run.proofs.Kept.{waiting_released}
 use Rattle.promises.specs.Condition2.{table, ByTheRules}
-use Rattle.promises.specs.InUse.{all_anytime, SameRows, SameToARun, SameInUse, InUse, TablesInUse}
+use Rattle.promises.specs.InUse.{SameRows, SameInUse, InUse, TablesInUse}
 use Rattle.promises.proofs.ByTheRules.{made, by_the_rules, held_shaped}
 use Rattle.promises.proofs.RulesSettle.{server_same, task_same, rules_settle}
 
@@ -67,41 +57,27 @@ both = ap₂ ◌&&◌
 all_same : (f g : ℕ → Bool) (n m : ℕ) → ((k : ℕ) → k < n → f k ≡ g k) → n ≡ m → all_below n f ≡ all_below m g
 all_same f g n m e q = all_cong f g n e ∙ ap (λ (n : ℕ). all_below n g) q
 
-keeps_same : {t u : Table} → SameRows t u → table_keeps t ≡ table_keeps u
-unfolding table_keeps
-keeps_same h =
-    both (ap (within 1 32) h.nservers) (both (ap (within 1 64) h.ntasks) (ap keeps h.rows))
-
-same_to_a_run : {t u : Table} → SameRows t u → SameToARun t u
-same_to_a_run h =
-    record { keeps = keeps_same h; nservers = h.nservers; ntasks = h.ntasks; rows = ap all_anytime h.rows }
-
--- what is written and answered of a table
-whole_task : {t u : Table} → SameRows t u → (k : ℕ) → k < t.ntasks → task_at t k ≡ task_at u k
-whole_task {t} {u} h k l =
-    sym (get_or-take t.ntasks t.tasks k no_task l) ∙
-    ap (λ (a : Rows). get_or a.tasks k no_task) h.rows ∙
-    get_or-take u.ntasks u.tasks k no_task (omega (arith, h.ntasks))
-
 module _ {t u : Table} (h : SameRows t u) where
-  same : SameToARun t u
-  same = same_to_a_run h
+  keeps_same : table_keeps t ≡ table_keeps u
+  unfolding table_keeps
+  keeps_same =
+      both (ap (within 1 32) h.nservers) (both (ap (within 1 64) h.ntasks) (ap keeps h.rows))
 
   wrote_same : (room : List ℕ) → wrote t room ≡ wrote u room
   unfolding wrote
-  wrote_same room = rw (keeps_same h, h.rows)
+  wrote_same room = rw (keeps_same, h.rows)
 
   interference_same : (m : Mode) (i : ℕ) → i < t.nservers → (R : ℕ) → interference t m i R ≡ interference u m i R
   interference_same m i l R =
-      interference_above t u m i R h.nservers (priority i l) priority (λ j d g. server_same same j d)
+      interference_above t u m i R h.nservers (priority i l) priority (λ j d g. server_same h j d)
     where
       priority : (j : ℕ) → j < t.nservers → priority_at t j ≡ priority_at u j
-      priority j d = ap (λ (a : Server). a.priority) (server_same same j d)
+      priority j d = ap (λ (a : Server). a.priority) (server_same h j d)
 
   response_same : (m : Mode) (i : ℕ) → i < t.nservers → response_at t m i ≡ response_at u m i
   unfolding response_at meets
   response_same m i l =
-      let e = server_same same i l in
+      let e = server_same h i l in
       let meet = fun_ext (λ (R : ℕ). ap₂ (λ (a : Server) (n : ℕ). leb ((in_mode a.capacity m).0 + n) R) e (interference_same m i l R)) in
       ap₂
       (λ (a : Server) (p : ℕ → Bool). if eqb (in_mode a.capacity m).0 0 then At 0 else least p 1 a.period.0)
@@ -116,89 +92,8 @@ verdict_same t u h i m =
       | inr l ↦ rw (keeps_same h, lt-ltb i t.nservers l, lt-ltb i u.nservers (omega (arith, h.nservers)), response_same h m i l)
     ]
 
--- the response of a task: its home serves alike, and the tasks above it ask alike
-module _ (t u : Table) (h : SameRows t u) where
-  serves_same : (i : ℕ) → i < t.nservers → serves t i ≡ serves u i
-  unfolding serves
-  serves_same i l =
-      let e = server_same (same h) i l in
-      rw (ap (λ (a : Server). is_timed a.kind) e, ap (λ (a : Server). a.capacity.n.0) e, verdict_same t u h i N)
-
-  module _ (k : ℕ) (l : k < t.ntasks) where
-    own : task_at t k ≡ task_at u k
-    own = whole_task h k l
-
-    apart-same : all_apart t k ≡ all_apart u k
-    unfolding all_apart
-    apart-same =
-        ap₂ (λ (a : Task) (b : Bool). ltb 0 a.separation.0 && b) own
-        (all_same
-        (λ j. not (is_above (task_at t k) (task_at t j)) || ltb 0 (task_at t j).separation.0)
-        (λ j. not (is_above (task_at u k) (task_at u j)) || ltb 0 (task_at u j).separation.0)
-        t.ntasks
-        u.ntasks
-        (λ j m. ap₂ (λ (a b : Task). not (is_above a b) || ltb 0 b.separation.0) own (whole_task h j m))
-        h.ntasks)
-
-    load_same : (w : ℕ) → load t k w ≡ load u k w
-    unfolding load
-    load_same w =
-        let part : Task → Task → ℕ =
-        λ a b. if is_above a b then up w b.separation.0 * b.limit.n.0 else 0 in
-        ap₂ (λ (a : Task) (n : ℕ). a.limit.n.0 + n) own
-        (sum_cong (λ j. part (task_at t k) (task_at t j)) (λ j. part (task_at u k) (task_at u j)) t.ntasks
-        (λ j m. ap₂ part own (whole_task h j m))
-        ∙ ap (λ (n : ℕ). sum_below n (λ j. part (task_at u k) (task_at u j))) h.ntasks)
-
-    carried_same : home_at t k < t.nservers → (w : ℕ) → carried t k w ≡ carried u k w
-    unfolding carried
-    carried_same there w =
-        let home : server_at t (home_at t k) ≡ server_at u (home_at u k) =
-        server_same (same h) (home_at t k) there ∙ ap (λ (a : Task). server_at u a.home) own in
-        ap₂ (λ (n : ℕ) (a : Server). leb n (supply a.period.0 a.capacity.n.0 w)) (load_same w) home
-
-task_response_same : (t u : Table) → SameRows t u → Sized t → (k : ℕ) → response_of t k ≡ response_of u k
-unfolding response_of
-task_response_same t u h z k =
-    elim (le_or_lt t.ntasks k) [
-      | inl g ↦ rw (keeps_same h, le-ltb k t.ntasks g, le-ltb k u.ntasks (omega (arith, h.ntasks)))
-      | inr l ↦
-          rw (
-            keeps_same h,
-            lt-ltb k t.ntasks l,
-            lt-ltb k u.ntasks (omega (arith, h.ntasks)),
-          )
-          (go l (true_or_false (table_keeps u)))
-    ]
-  where
-    asked : Bool → (ℕ → Bool) → Task → Verdict
-    asked b p a = unless b say No NoResponse else told (least p 1 a.separation.0)
-
-    kept : k < t.ntasks → table_keeps t ≡ true →
-        asked (serves t (home_at t k) && all_apart t k) (carried t k) (task_at t k)
-        ≡ asked (serves u (home_at u k) && all_apart u k) (carried u k) (task_at u k)
-    kept l e =
-        let there = ((table_rules t z e).task k l).home in
-        let same_row = own t u h k l in
-        let home = serves_same t u h (home_at t k) there ∙ ap (λ (a : Task). serves u a.home) same_row in
-        ap₂ (λ (b : Bool) (p : ℕ → Bool). asked b p (task_at t k)) (both home (apart-same t u h k l))
-        (fun_ext (carried_same t u h k l there))
-        ∙ ap (asked (serves u (home_at u k) && all_apart u k) (carried u k)) same_row
-
-    go : k < t.ntasks → (table_keeps u ≡ true) ⊎ (table_keeps u ≡ false) →
-        (unless table_keeps u say No Unsound else asked (serves t (home_at t k) && all_apart t k) (carried t k) (task_at t k))
-        ≡ (unless table_keeps u say No Unsound else asked (serves u (home_at u k) && all_apart u k) (carried u k) (task_at u k))
-    go l (inl e) = rw e (kept l (keeps_same h ∙ e))
-    go l (inr e) = rw e
-
 pub tables_in_use : TablesInUse
-tables_in_use t u h = (
-  keeps_same h,
-  wrote_same h,
-  verdict_same t u h,
-  task_response_same t u h,
-  same_to_a_run h,
-)
+tables_in_use t u h = (keeps_same h, wrote_same h, verdict_same t u h)
 
 module _ {r q : Run} (h : SameInUse r q) where
   server_tests_lem : (i : ℕ) → i < r.table.nservers →
@@ -214,7 +109,7 @@ module _ {r q : Run} (h : SameInUse r q) where
   task_tests_lem k l =
       let e = task_same h.tables k l in
       let limit = ap₂ (λ (a : Task) (m : Mode). (in_mode a.limit m).0) e h.mode in
-      rw (h.waiting k l, h.runs k l, limit, ap (λ (a : Task). a.level) e, h.mode, h.last)
+      rw (h.waiting k l, h.runs k l, limit, e, h.mode, h.last)
 
   last_test : (v : Last) → sound_last r.table r.state v ≡ sound_last q.table q.state v
   unfolding sound_last every
@@ -236,7 +131,7 @@ module _ {r q : Run} (h : SameInUse r q) where
   sound_same : sound r ≡ sound q
   unfolding sound sound_state every
   sound_same =
-      both h.tables.keeps
+      both (keeps_same h.tables)
       (both (all_same _ _ r.table.nservers q.table.nservers server_tests_lem h.tables.nservers)
       (both (all_same _ _ r.table.ntasks q.table.ntasks task_tests_lem h.tables.ntasks)
       (both (last_test r.state.last ∙ ap (sound_last q.table q.state) h.last)

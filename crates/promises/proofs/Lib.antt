@@ -27,5 +27,3 @@ pub mod Reworded
 pub mod Morning
 pub mod OldReading
 pub mod Phases
-pub mod Responses
-pub mod Supply

@@ -38,15 +38,15 @@ use Rattle.text.specs.Line.{Expected, fits, Form, tick_form, server_form, task_f
 use Rattle.text.specs.Line.{form_tests, micros_at, server_said, task_said, said_unless, formed, line_by}
 use Rattle.text.specs.Line.{line_of, read_line}
 use Rattle.text.specs.Standing.{is_nil, limits_of, placed, server_bounds, task_bounds, bounds}
-use Rattle.text.specs.Standing.{server_whole, task_whole, wholes, fault, tell◌at◌or◌, standing, grown}
+use Rattle.text.specs.Standing.{server_whole, wholes, fault, tell◌at◌or◌, standing, grown}
 use Rattle.text.specs.TableText.{read_lines}
 use Rattle.text.specs.Read.{ReadRows, refused, pair_said, compared, ended, line_said, table_text, read}
 use Rattle.text.proofs.Refused.{standing_0}
 use Rattle.promises.specs.OldReading.{OldLine, old_tick, old_server, old_task, old_malformed}
 use Rattle.promises.specs.OldReading.{old_all_fit, old_has, old_formed, old_line_of, old_read_line}
 use Rattle.promises.specs.OldReading.{old_placed, old_server_bounds, old_task_bounds, old_bounds}
-use Rattle.promises.specs.OldReading.{old_server_whole, old_task_whole, old_wholes}
-use Rattle.promises.specs.OldReading.{old_task_fault, old_fault, old_standing, old_grown, OldAnswer, old_refused}
+use Rattle.promises.specs.OldReading.{old_server_whole, old_wholes, old_task_fault, old_fault}
+use Rattle.promises.specs.OldReading.{old_standing, old_grown, OldAnswer, old_refused}
 use Rattle.promises.specs.OldReading.{old_pair_said, old_compared, old_ended, old_line_said}
 use Rattle.promises.specs.OldReading.{old_read_from, old_read, number_before, as_before}
 use Rattle.promises.specs.OldReading.{NothingElseMoved}
@@ -180,15 +180,14 @@ malformed_before false field = refl
 standing_before : (n : ℕ) (a : Rows) (l : Line) →
     number (standing n a l) ≡ old_standing n a (before l)
 unfolding
-    every standing placed bounds server_bounds task_bounds wholes server_whole task_whole fault
-    old_standing old_placed old_bounds old_server_bounds old_task_bounds old_wholes old_server_whole
-    old_task_whole old_fault
+    every standing placed bounds server_bounds task_bounds wholes server_whole fault
+    old_standing old_placed old_bounds old_server_bounds old_task_bounds old_wholes old_server_whole old_fault
 standing_before n a (OfTick t) = tests_before (placed n a ATick) (bounds a (OfTick t)) [] Kept
 standing_before n a (OfServer s) =
     tests_before (placed n a AServer) (bounds a (OfServer s)) (wholes a (OfServer s)) Kept
 standing_before n a (OfTask k) =
     rw (← fault_before a.servers k.home k.degraded (limits_of a.tick.0 k.limit))
-    (tests_before (placed n a ATask) (bounds a (OfTask k)) (wholes a (OfTask k)) (fault a (OfTask k)))
+    (tests_before (placed n a ATask) (bounds a (OfTask k)) [] (fault a (OfTask k)))
 standing_before n a (Malformed word field) = malformed_before (placed n a word) field
 
 grown_before : (a : Rows) (l : Line) → grown a l ≡ old_grown a (before l)

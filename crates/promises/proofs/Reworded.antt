@@ -1,32 +1,26 @@
--- Condition 2, and what requests No. 4, No. 5 and No. 8 come to, with one of its words changed is
--- false, each time by a run or an answer that is computed. Assumes nothing.
-use mathlib.Core.Path.{◌≡◌, refl, sym, ap, ◌∙◌}
+-- Condition 2, and what requests No. 4 and No. 5 come to, with one of its words changed is false,
+-- each time by a run or an answer that is computed. Assumes nothing.
+use mathlib.Core.Path.{◌≡◌, refl, ap}
 use mathlib.Core.Bool.{Bool, true, false}
 use mathlib.Core.List.{List, [], ◌∷◌}
 use mathlib.Core.Logic.{◌⊎◌, inl, inr}
 use Prim.Native.Nat.{ℕ, ◌+◌, ◌≤◌, ◌<◌}
 use native.Mathlib.Omega.{arith}
-use lib.ListN.{get_or}
 use borrow.Author.Count.{below_more}
 use Rattle.laws.specs.Rows.{sum_below, listed}
-use Rattle.laws.specs.Supply.{supply}
 use Rattle.table.specs.declared.Kind.TheVariants.{Timed}
 use Rattle.table.specs.declared.Mode.{Mode}
 use Rattle.table.specs.declared.Level.TheVariants.{MI}
 use Rattle.table.specs.declared.Mode.TheVariants.{N, D1, D2}
 use Rattle.table.specs.declared.Table.{Table}
 use Rattle.table.specs.Inner.{Sized}
-use Rattle.table.specs.Rows.{task_at, limit_at, capacity_at, home_at, task_priority_at, separation_at}
+use Rattle.table.specs.Rows.{task_at, limit_at, capacity_at}
 use Rattle.table.specs.Rules.{table_keeps}
-use Rattle.table.specs.declared.Refusal.TheVariants.{NoResponse}
-use Rattle.verdict.specs.declared.Verdict.{Verdict}
-use Rattle.verdict.specs.declared.Verdict.TheVariants.{Response, Misses, No}
+use Rattle.verdict.specs.declared.Verdict.TheVariants.{Response, Misses}
 use Rattle.verdict.specs.declared.Fits.TheVariants.{Yes, Miss}
 use Rattle.verdict.specs.Verdict.{interference, verdict_of}
 use Rattle.verdict.specs.Fits.{verdicts_of, is_miss, least_row, from_verdicts, fits_of}
 use Rattle.verdict.proofs.Cases.{three}
-use Rattle.response.specs.Response.{response_of, responses_of}
-use Rattle.response.proofs.Cases.{home, asks, alone, ticks, vector_3, lower_without_a_separation}
 use Rattle.queues.specs.declared.Last.TheVariants.{Job}
 use Rattle.run.specs.declared.Run.{Run}
 use Rattle.events.specs.declared.Turn.TheVariants.{Run as Ran}
@@ -50,7 +44,6 @@ use Rattle.promises.specs.Condition2.{RunSized, LiesAbove}
 use Rattle.promises.specs.AlarmMode.{mode_height, left_as}
 use Rattle.promises.specs.Bounds.{normal, charges, waits_until}
 use Rattle.promises.specs.Fits.{EachServed}
-use Rattle.promises.specs.Supply.{given_in, GivesAtLeast}
 use Rattle.promises.proofs.Opened.{opened}
 use Rattle.promises.proofs.FromTheText.{reached_held}
 
@@ -218,36 +211,3 @@ needs_a_table_that_fits f =
     let es = Tick false ∷ Tick false ∷ Tick false ∷ Tick false ∷ Tick false ∷ Tick false ∷ [] in
     let n : ◌≡◌ {A = ℕ} 1 2 = (f t es refl 1 0 6 2 (omega arith) refl refl (omega arith) refl refl refl).0 in
     omega (arith, n)
-
--- Request No. 8. "the supply in w ticks": a server of period 1 and capacity 1 gives 1 in one tick, and
--- the supply in one tick more is 2.
-pub needs_all_of_w :
-    ((T C : ℕ) (given : ℕ → Bool) → 1 ≤ C → C ≤ T → GivesAtLeast T C given →
-    (s w : ℕ) → supply T C (w + 1) ≤ given_in given s w) →
-    ⊥
-unfolding computed supply
-needs_all_of_w f =
-    let n : 2 ≤ 1 = f 1 1 (λ x. true) (omega arith) (omega arith) (λ q. omega arith) 0 1 in
-    omega (arith, n)
-
--- "from 1 to the task's separation": a response may be the separation itself.
-pub needs_the_separation_itself :
-    ((t : Table) (k w : ℕ) → response_of t k ≡ Response (record { 0 = w }) → w < separation_at t k) → ⊥
-unfolding computed alone
-needs_the_separation_itself f =
-    let n : 9 < 9 = f (alone (home 4 2) (asks 9 3 9 ∷ [])) 0 9 vector_3 in
-    omega (arith, n)
-
--- "or a higher one of the home has no separation": that a lower one has none is no cause of 14.
-pub needs_a_higher_one :
-    ((t : Table) (k l : ℕ) → table_keeps t ≡ true → k < t.ntasks → l < t.ntasks → home_at t l ≡ home_at t k →
-    task_priority_at t l < task_priority_at t k → separation_at t l ≡ 0 → response_of t k ≡ No NoResponse) →
-    ⊥
-unfolding computed alone responses_of
-needs_a_higher_one f =
-    let t = alone (home 4 2) (asks 9 1 20 ∷ asks 8 1 0 ∷ []) in
-    let n = f t 0 1 refl (omega arith) (omega arith) refl (omega arith) refl in
-    let e : response_of t 0 ≡ ticks 5 = ap (λ (vs : List Verdict). get_or vs 0 Misses) lower_without_a_separation in
-    let z : ticks 5 ≡ No NoResponse = sym e ∙ n in
-    let q : ◌≡◌ {A = ℕ} 0 1 = cc in
-    omega arith

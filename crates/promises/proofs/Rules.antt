@@ -106,7 +106,6 @@ task_row ss k =
     also is_in 1 100000 k.limit.n.0
     also is_in 1 100000 k.limit.d1.0
     also is_in 1 100000 k.limit.d2.0
-    also is_le k.separation.0 1000000
     also none))
     (task_fits ss k.home k.degraded k.limit)
 

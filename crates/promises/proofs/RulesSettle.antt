@@ -5,7 +5,7 @@ use mathlib.Core.Bool.{Bool, true, false}
 use mathlib.Core.Logic.{◌⊎◌, inl, inr}
 use Prim.Native.Nat.{ℕ, zero, suc, ◌+◌, ◌<◌}
 use native.Mathlib.Omega.{arith}
-use lib.ListN.{get_or, take, get_or-map}
+use lib.ListN.{get_or}
 use lib.Seq.{get_or-take}
 use borrow.Author.Tests.{eq-eqb, ne_eqb, lt-ltb, ltb-true}
 use Rattle.laws.specs.Rows.{sum_below}
@@ -18,7 +18,6 @@ use Rattle.table.specs.declared.Table.{Table}
 use Rattle.units.specs.declared.Ticks.{Ticks}
 use Rattle.table.specs.Rows.{Rows, rows_of, no_server, no_task, server_at, task_at, period_at, phase_at, in_mode}
 use Rattle.table.specs.Rows.{limit_at}
-use Rattle.table.specs.Rules.{table_keeps}
 use Rattle.queues.specs.declared.Last.{Last}
 use Rattle.queues.specs.declared.Last.TheVariants.{NoJob, Job}
 use Rattle.run.specs.declared.State.{State}
@@ -41,36 +40,27 @@ use Rattle.events.proofs.Answers.{one_is, one_eq, charged_is}
 use Rattle.promises.specs.Condition2.{OneTick, OnTheWay, Judging, stays, rises}
 use Rattle.promises.specs.Condition2.{is_cut, table, old, new, Ends, Discarded}
 use Rattle.promises.specs.Condition2.{Waits, Started, Able, Highest, HighestTask, ByTheRules, leaves}
-use Rattle.promises.specs.InUse.{anytime, all_anytime, SameToARun, SameInUse, RulesSettle}
+use Rattle.promises.specs.InUse.{SameRows, SameInUse, RulesSettle}
 use Rattle.promises.proofs.ByTheRules.{dropped, left_by, waits_or_none}
 
 -- Rows in use of two tables.
-pub server_same : {t u : Table} → SameToARun t u → (i : ℕ) → i < t.nservers → server_at t i ≡ server_at u i
+pub server_same : {t u : Table} → SameRows t u → (i : ℕ) → i < t.nservers → server_at t i ≡ server_at u i
 server_same {t} {u} h i l =
     sym (get_or-take t.nservers t.servers i no_server l) ∙
     ap (λ (a : Rows). get_or a.servers i no_server) h.rows ∙
     get_or-take u.nservers u.servers i no_server (omega (arith, h.nservers))
 
-anytime_at : (t : Table) (k : ℕ) → k < t.ntasks → get_or (all_anytime (rows_of t)).tasks k no_task ≡ anytime (task_at t k)
-anytime_at t k l =
-    get_or-map anytime (take t.ntasks t.tasks) k no_task ∙ ap anytime (get_or-take t.ntasks t.tasks k no_task l)
-
-pub task_same : {t u : Table} → SameToARun t u → (k : ℕ) → k < t.ntasks → anytime (task_at t k) ≡ anytime (task_at u k)
+pub task_same : {t u : Table} → SameRows t u → (k : ℕ) → k < t.ntasks → task_at t k ≡ task_at u k
 task_same {t} {u} h k l =
-    sym (anytime_at t k l) ∙ ap (λ (a : Rows). get_or a.tasks k no_task) h.rows ∙
-    anytime_at u k (omega (arith, h.ntasks))
+    sym (get_or-take t.ntasks t.tasks k no_task l) ∙
+    ap (λ (a : Rows). get_or a.tasks k no_task) h.rows ∙
+    get_or-take u.ntasks u.tasks k no_task (omega (arith, h.ntasks))
 
 same_back : {r q : Run} → SameInUse r q → SameInUse q r
 same_back h =
     let t = h.tables in
     record {
-      tables =
-          record {
-            keeps = sym t.keeps;
-            nservers = sym t.nservers;
-            ntasks = sym t.ntasks;
-            rows = sym t.rows;
-          };
+      tables = record { nservers = sym t.nservers; ntasks = sym t.ntasks; rows = sym t.rows };
       mode = sym h.mode;
       used = λ i l. sym (h.used i (omega (arith, t.nservers)));
       elapsed = λ i l. sym (h.elapsed i (omega (arith, t.nservers)));
@@ -95,9 +85,8 @@ judging_comes t k c (is_cut m e n) (suc i) h =
     (eq-eqb c (limit_at t m k) e, is_false (raises m (task_at t k).level) (λ u. n (ltb-true _ _ u)))
     (refl, refl)
 
-judging_same : (t u : Table) (k c : ℕ) {m m' m'' : Mode} {l l' : Left} → anytime (task_at t k) ≡ anytime (task_at u k) →
+judging_same : (t u : Table) (k c : ℕ) {m m' m'' : Mode} {l l' : Left} → task_at t k ≡ task_at u k →
     Judging t k c m m' l → Judging u k c m m'' l' → (m' ≡ m'') × (l ≡ l')
-unfolding judge
 judging_same t u k c {m} e i j =
     let a = judging_comes t k c i 3 (omega arith) in
     let b = judging_comes u k c j 3 (omega arith) in
@@ -107,7 +96,7 @@ judging_same t u k c {m} e i j =
     )
 
 ends_same : (t u : Table) (s z : State) (mark : Bool) (v : Last) {m m' : Mode} {l l' : Left} → LastSound t s v →
-    ((k : ℕ) → k < t.ntasks → anytime (task_at t k) ≡ anytime (task_at u k)) → s.mode ≡ z.mode →
+    ((k : ℕ) → k < t.ntasks → task_at t k ≡ task_at u k) → s.mode ≡ z.mode →
     ((k : ℕ) → k < t.ntasks → runs_at s k ≡ runs_at z k) →
     Ends t s mark v m l → Ends u z mark v m' l' → (m ≡ m') × (l ≡ l')
 ends_same t u s z mark NoJob q tasks mode runs a b = (a.0 ∙ mode ∙ sym b.0, a.1 ∙ sym b.1)
@@ -387,10 +376,9 @@ module _ (x y : OneTick) (safe : sound x.before ≡ true) (marks : x.mark ≡ y.
       record {
         tables =
             record {
-              keeps = tables_after table_keeps h.tables.keeps;
               nservers = tables_after (λ t. t.nservers) h.tables.nservers;
               ntasks = tables_after (λ t. t.ntasks) h.tables.ntasks;
-              rows = tables_after (λ t. all_anytime (rows_of t)) h.tables.rows;
+              rows = tables_after rows_of h.tables.rows;
             };
         mode = p.step3.told ∙ mode ∙ sym q.step3.told;
         used =

@@ -41,7 +41,7 @@ use Rattle.text.specs.declared.Line.{Line}
 use Rattle.text.specs.declared.Line.TheVariants.{OfTick, OfServer, OfTask, Malformed}
 use Rattle.text.specs.declared.Read.{Read}
 use Rattle.text.specs.Line.{field_at, server_said, task_said, leading, read_line}
-use Rattle.text.specs.Standing.{last_said, limits_of, standing}
+use Rattle.text.specs.Standing.{phase_said, limits_of, standing}
 use Rattle.text.specs.Read.{reading_number, reading_values, read, shown}
 use Rattle.text.specs.Allowed.{grown_by, Allowed}
 use Rattle.text.specs.Write.{Wrote, write, writing_number, writing_values, wrote}
@@ -267,7 +267,7 @@ abbrev pub server_asked : ℕ → Rows → List (List ℕ) → List {1} Asked
 server_asked n a fs =
     let s = server_said fs in
     let t = a.tick.0 in
-    let phase = (last_said s.phase).0 in
+    let phase = (phase_said s.phase).0 in
     (no 1 at 0 unless ((2 ≤ n) × (length a.tasks ≡ 0)))
     ∷ (no 1 at 0 unless Within 7 8 (length fs))
     ∷ (no 1 at 1 unless IsNumber (field_at fs 1))
@@ -334,17 +334,13 @@ abbrev pub TaskFits : List Server → ℕ → ℕ → ByMode → Type 0
 TaskFits ss home degraded limit = AllHold (fault_asked ss home degraded limit)
 
 -- A line below a `server` line. "priority 1 to 255, greater first; level; limits for N, D1, D2,
--- each rounded up to a tick, then 1 to 100,000 and not falling." No. 8: "as a last field that may
--- be absent, a least separation between releases, in whole ticks, 1 to 1,000,000"; "in the text,
--- out of bounds is 2, not whole ticks 3". It is compared in microseconds, so below one tick is 2.
+-- each rounded up to a tick, then 1 to 100,000 and not falling."
 abbrev pub task_asked : Rows → List (List ℕ) → List {1} Asked
 task_asked a fs =
     let k = task_said fs in
-    let t = a.tick.0 in
-    let limit = limits_of t k.limit in
-    let separation = (last_said k.separation).0 in
+    let limit = limits_of a.tick.0 k.limit in
     (no 1 at 0 unless (1 ≤ length a.servers))
-    ∷ (no 1 at 0 unless Within 7 8 (length fs))
+    ∷ (no 1 at 0 unless (length fs ≡ 7))
     ∷ (no 1 at 1 unless IsNumber (field_at fs 1))
     ∷ (no 1 at 2 unless IsNumber (field_at fs 2))
     ∷ (no 1 at 3 unless IsNumber (field_at fs 3))
@@ -352,14 +348,11 @@ task_asked a fs =
     ∷ (no 1 at 5 unless IsNumber (field_at fs 5))
     ∷ (no 1 at 6 unless IsNumber (field_at fs 6))
     ∷ (no 1 at 7 unless IsNumber (field_at fs 7))
-    ∷ (no 1 at 8 unless (8 ≤ length fs → IsNumber (field_at fs 8)))
     ∷ (no 2 at 0 unless (length a.tasks < 64))
     ∷ (no 2 at 3 unless Within 1 255 k.priority)
     ∷ (no 2 at 5 unless Within 1 100000 limit.n.0)
     ∷ (no 2 at 6 unless Within 1 100000 limit.d1.0)
     ∷ (no 2 at 7 unless Within 1 100000 limit.d2.0)
-    ∷ (no 2 at 8 unless (8 ≤ length fs → Within t (1000000 * t) separation))
-    ∷ (no 3 at 8 unless (separation % t ≡ 0))
     ∷ fault_asked a.servers k.home k.degraded limit
 
 -- by the leading word; an "unknown word" stands nowhere
@@ -423,8 +416,7 @@ EachFault =
 
 -- A TABLE AND A STATE THAT ARE HANDED IN, number 13: "a table or state handed in breaks the rules
 -- of this page". The rules of 01, Tables, in ticks, of the rows in use; No. 7: "a phase, 0 to period
--- less 1"; No. 8: "a least separation between releases, in whole ticks, 1 to 1,000,000", 0 being
--- none.
+-- less 1".
 abbrev pub ServerRow : Server → Type 0
 ServerRow s =
     All
@@ -444,7 +436,6 @@ TaskRow ss k =
     ∷ Within 1 100000 k.limit.n.0
     ∷ Within 1 100000 k.limit.d1.0
     ∷ Within 1 100000 k.limit.d2.0
-    ∷ (k.separation.0 ≤ 1000000)
     ∷ [])
     × TaskFits ss k.home k.degraded k.limit
 
@@ -666,8 +657,7 @@ WriteThenRead =
     (t : Table) → table_keeps t ≡ true →
     Reads (text_of t) 0 [] × (rows_of (read_as (text_of t)).table ≡ rows_of t)
 
--- "each task time was whole ticks", of t microseconds: the limits, since a separation that is not
--- is refused by 3
+-- "each task time was whole ticks", of t microseconds
 abbrev pub TimesWhole : ℕ → List ℕ → Type 0
 TimesWhole t text =
     (n : ℕ) (k : TaskLine) → 1 ≤ n → line_at text n ≡ OfTask k →
@@ -799,10 +789,6 @@ TableLines =
     ∷ Refuses (below tick "server\t0\ttimed\t1\t2000\t1000\t1000\t1000\t\t") "table\tno\t1\t2\t0"
     ∷ Refuses (below tick "server\t0\ttimed\t1\t2000\t1000\t1000\t1000\t2000") "table\tno\t2\t2\t8"
     ∷ Refuses (below tick "server\t0\ttimed\t1\t2000\t1000\t1000\t1000\t500") "table\tno\t3\t2\t8"
-    ∷ Refuses (below small_text "task\t0\t0\t2\tLO\t1000\t1000\t1000\t") "table\tno\t1\t4\t8"
-    ∷ Refuses (below small_text "task\t0\t0\t2\tLO\t1000\t1000\t1000\t\t") "table\tno\t1\t4\t0"
-    ∷ Refuses (below small_text "task\t0\t0\t2\tLO\t1000\t1000\t1000\t0") "table\tno\t2\t4\t8"
-    ∷ Refuses (below small_text "task\t1\t1\t2\tLO\t1000\t1000\t1000\t1500") "table\tno\t3\t4\t8"
     ∷ Refuses (below small_text "task\t1\t1\t2\tLO\t1000\t1000\t1000") "table\tno\t41\t4\t1"
     ∷ Refuses (below small_text "task\t0\t1\t2\tLO\t1000\t1000\t1000") "table\tno\t41\t4\t2"
     ∷ Refuses (below small_text "task\t0\t0\t2\tLO\t3000\t2000\t1000") "table\tno\t45\t4\t6"

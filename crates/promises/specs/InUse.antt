@@ -1,15 +1,12 @@
 -- 01, Tables: "Tables and states are compared on the rows in use." And How we will read your
 -- contracts: "Show that any two outcomes allowed by it are equal." proofs/InUse.antt proves it.
-use Rattle.std.specs.Prelude.{◌≡◌, true, List, map, ℕ, ◌<◌}
+use Rattle.std.specs.Prelude.{◌≡◌, true, List, ℕ, ◌<◌}
 use Rattle.table.specs.declared.Mode.{Mode}
-use Rattle.table.specs.declared.Task.{Task}
 use Rattle.table.specs.declared.Table.{Table}
-use Rattle.table.specs.Rows.{Rows, rows_of}
+use Rattle.table.specs.Rows.{rows_of}
 use Rattle.table.specs.Rules.{table_keeps}
-use Rattle.table.specs.Inner.{Sized}
 use Rattle.text.specs.Write.{wrote}
 use Rattle.verdict.specs.Verdict.{verdict_of}
-use Rattle.response.specs.Response.{response_of}
 use Rattle.run.specs.declared.Run.{Run}
 use Rattle.events.specs.declared.Event.{Event}
 use Rattle.run.specs.State.{used_at, elapsed_at, waiting_at, runs_at}
@@ -23,33 +20,9 @@ pub record SameRows (t u : Table) : Type 0 where
   pub ntasks : t.ntasks ≡ u.ntasks
   pub rows : rows_of t ≡ rows_of u
 
--- No. 8: "A separation is never enforced on releases": a run reads none. A task's row without it,
--- and the rows without theirs.
-abbrev pub anytime : Task → Task
-anytime k =
-    record {
-      home = k.home;
-      degraded = k.degraded;
-      priority = k.priority;
-      level = k.level;
-      limit = k.limit;
-      separation = record { 0 = 0 };
-    }
-
-abbrev pub all_anytime : Rows → Rows
-all_anytime a = record { tick = a.tick; servers = a.servers; tasks = map anytime a.tasks }
-
--- two tables that are the same to a run: but for rows that are not in use and for separations. Both
--- keep the rules, or neither does.
-pub record SameToARun (t u : Table) : Type 0 where
-  pub keeps : table_keeps t ≡ table_keeps u
-  pub nservers : t.nservers ≡ u.nservers
-  pub ntasks : t.ntasks ≡ u.ntasks
-  pub rows : all_anytime (rows_of t) ≡ all_anytime (rows_of u)
-
--- two runs that are the same but for rows that are not in use and for separations
+-- two runs that are the same but for rows that are not in use
 pub record SameInUse (r q : Run) : Type 0 where
-  pub tables : SameToARun r.table q.table
+  pub tables : SameRows r.table q.table
   pub mode : r.state.mode ≡ q.state.mode
   pub used : (i : ℕ) → i < r.table.nservers → used_at r.state i ≡ used_at q.state i
   pub elapsed : (i : ℕ) → i < r.table.nservers → elapsed_at r.state i ≡ elapsed_at q.state i
@@ -60,27 +33,24 @@ pub record SameInUse (r q : Run) : Type 0 where
   pub accepted : r.state.accepted ≡ q.state.accepted
 
 -- The rules of a tick settle what it says and the run after it: two ticks that go by the rules, on
--- runs that are the same on the rows in use, but for separations, say the same and leave the same.
+-- runs that are the same on the rows in use, say the same and leave the same.
 abbrev pub RulesSettle : Type 0
 RulesSettle =
     (x y : OneTick) → sound x.before ≡ true → x.mark ≡ y.mark →
     SameInUse x.before y.before → ByTheRules x → ByTheRules y →
     (x.says ≡ y.says) × SameInUse x.after y.after
 
--- Two runs that are the same on the rows in use, but for separations, answer any events alike, and
--- stay the same.
+-- Two runs that are the same on the rows in use answer any events alike, and stay the same.
 abbrev pub InUse : Type 0
 InUse =
     (r q : Run) (es : List Event) → RunSized r → RunSized q → SameInUse r q →
     (answers r es ≡ answers q es) × SameInUse (after r es) (after q es)
 
 -- Two tables that are the same on the rows in use keep the rules alike, are written alike and have
--- the same verdicts and the same responses; and they are the same to a run.
+-- the same verdicts.
 abbrev pub TablesInUse : Type 0
 TablesInUse =
     (t u : Table) → SameRows t u →
     (table_keeps t ≡ table_keeps u)
     × ((room : List ℕ) → wrote t room ≡ wrote u room)
     × ((i : ℕ) (m : Mode) → verdict_of t i m ≡ verdict_of u i m)
-    × (Sized t → (k : ℕ) → response_of t k ≡ response_of u k)
-    × SameToARun t u

@@ -12,5 +12,3 @@ pub mod InUse
 pub mod Morning
 pub mod OldReading
 pub mod Phases
-pub mod Responses
-pub mod Supply

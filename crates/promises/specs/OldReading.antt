@@ -3,8 +3,7 @@
 -- that nothing else moved. Two things are put in another way than they were: a refusal is its
 -- number, and the leading words are asked by name, since a form no longer holds its word. But for
 -- the forms so shortened, what is imported for the old reading is what the request left alone. The
--- phase of No. 7 and the separation of No. 8 stand in both readings: they came later, and have no
--- number of their own.
+-- phase of No. 7 stands in both readings: it came later, and has no number of its own.
 -- proofs/OldReading.antt proves the statement.
 use Rattle.std.specs.Prelude.{◌≡◌, Bool, true, false, not, ◌&&◌, List, [], ◌∷◌, ◌++◌, ℕ, ◌+◌, ◌*◌, leb, ltb, eqb, length}
 use Rattle.laws.specs.Choice.{if◌then◌else◌, unless◌say◌else◌, every, within}
@@ -25,7 +24,7 @@ use Rattle.text.specs.declared.Reading.TheVariants.{Taken, Refused, Equal}
 use Rattle.text.specs.Words.{tick_word, server_word, task_word}
 use Rattle.text.specs.Line.{Expected, fits, Form, tick_form, server_form, task_form}
 use Rattle.text.specs.Line.{micros_at, server_said, task_said}
-use Rattle.text.specs.Standing.{is_nil, last_said, server_of, limits_of, task_of, separation_bound, whole}
+use Rattle.text.specs.Standing.{is_nil, phase_said, server_of, limits_of, task_of, whole}
 use Rattle.text.specs.Read.{reading_number, ReadRows, read}
 
 -- What a line said: of one that is malformed neither the leading word nor a field.
@@ -83,11 +82,11 @@ old_server_bounds rows t s =
     ∷ leb s.capacity.n.0 s.period.0
     ∷ leb s.capacity.d1.0 s.period.0
     ∷ leb s.capacity.d2.0 s.period.0
-    ∷ leb ((last_said s.phase).0 + t) s.period.0
+    ∷ leb ((phase_said s.phase).0 + t) s.period.0
     ∷ []
 
 -- "priority 1 to 255, greater first; level; limits for N, D1, D2, each rounded up to a tick, then 1
--- to 100,000". No. 8, of a separation: "out of bounds is 2".
+-- to 100,000"
 unfoldable pub old_task_bounds : ℕ → ℕ → TaskLine → List Bool
 old_task_bounds rows t k =
     ltb rows 64
@@ -95,7 +94,6 @@ old_task_bounds rows t k =
     ∷ within 1 100000 (up k.limit.n.0 t)
     ∷ within 1 100000 (up k.limit.d1.0 t)
     ∷ within 1 100000 (up k.limit.d2.0 t)
-    ∷ separation_bound t k.separation
     ∷ []
 
 unfoldable pub old_bounds : Rows → OldLine → List Bool
@@ -111,17 +109,13 @@ old_server_whole t s =
     ∷ whole t s.capacity.n
     ∷ whole t s.capacity.d1
     ∷ whole t s.capacity.d2
-    ∷ whole t (last_said s.phase)
+    ∷ whole t (phase_said s.phase)
     ∷ []
-
--- No. 8, of a separation: "not whole ticks 3"
-unfoldable pub old_task_whole : ℕ → TaskLine → List Bool
-old_task_whole t k = whole t (last_said k.separation) ∷ []
 
 unfoldable pub old_wholes : Rows → OldLine → List Bool
 old_wholes a (old_tick t) = []
 old_wholes a (old_server s) = old_server_whole a.tick.0 s
-old_wholes a (old_task k) = old_task_whole a.tick.0 k
+old_wholes a (old_task k) = []
 old_wholes a old_malformed = []
 
 -- "home server; degraded server": rows of the table

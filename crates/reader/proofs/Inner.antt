@@ -18,7 +18,7 @@ use Rattle.table.specs.declared.Server.{Server}
 use Rattle.table.specs.declared.Task.{Task}
 use Rattle.table.specs.declared.Table.{Table}
 use Rattle.table.specs.Rows.{Rows, no_rows, no_server, no_task, rows_of, table_of, padded}
-use Rattle.table.specs.Rules.{tick_keeps}
+use Rattle.table.specs.Rules.{tick_keeps, task_keeps}
 use Rattle.text.specs.declared.ServerLine.{ServerLine}
 use Rattle.text.specs.declared.TaskLine.{TaskLine}
 use Rattle.text.specs.declared.Word.{Word}
@@ -27,11 +27,11 @@ use Rattle.text.specs.declared.Line.{Line}
 use Rattle.text.specs.declared.Line.TheVariants.{OfTick, OfServer, OfTask, Malformed}
 use Rattle.table.specs.declared.Standing.TheVariants.{Kept}
 use Rattle.text.specs.Standing.{is_nil, placed, server_bounds, bounds, fault, standing, grown}
-use Rattle.text.specs.Standing.{server_of, limits_of, task_of, task_bounds}
+use Rattle.text.specs.Standing.{server_of, limits_of, task_of}
 use Rattle.reader.specs.Inner.{Above, placed_by}
 use Rattle.text.proofs.Bounds.{server_within, task_within}
 use Rattle.table.proofs.Rules.{rows_there}
-use Rattle.text.proofs.Standing.{standing_keeps, no_form}
+use Rattle.text.proofs.Standing.{standing_keeps, task_keeps_lem, no_form}
 use Rattle.text.proofs.RoundTrip.{table_rows, table_sized}
 
 -- a row put where there is room
@@ -178,7 +178,7 @@ pub record ServerGrows (t : Table) (s : ServerLine) : Type 0 where
 
 pub record TaskGrows (t : Table) (k : TaskLine) : Type 0 where
   pub tick : 0 < t.tick.0
-  pub bounded : every (task_bounds t.ntasks t.tick.0 k) ≡ true
+  pub keeps : every (task_keeps (task_of t.tick.0 k)) ≡ true
   pub home : k.home < 32
   pub degraded : k.degraded < 32
   pub room : t.ntasks < 64
@@ -205,7 +205,7 @@ module _ (n : ℕ) (t : Table) (r : Above n t) where
       let g = tick_low n t r (task_placed n t r p.stands) in
       record {
         tick = g;
-        bounded = b;
+        keeps = task_keeps_lem t.ntasks t.tick.0 k b;
         home = omega (arith, h.0, servers_count t r.whole, r.servers);
         degraded = omega (arith, h.1, servers_count t r.whole, r.servers);
         room = (task_within t.ntasks t.tick.0 k g b).room;

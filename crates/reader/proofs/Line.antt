@@ -116,9 +116,9 @@ module _ (form : Form) (text : List ℕ) (from : ℕ) (r : Fields) (read : ReadA
         (split_some tab (first_line (drop from text)))
 
     -- field k, the last of its form, a number
-    pub last_read : (k : ℕ) → 0 < k → length form.fields ≤ 8 → get_or form.fields (k - 1) a_number ≡ a_number →
+    pub last-read : (k : ℕ) → 0 < k → length form.fields ≤ 8 → get_or form.fields (k - 1) a_number ≡ a_number →
         last_of r.count k (get_or r.values (k - 1) 0) ≡ last_at (fields_from text from) k
-    last_read k p l e = rw many_read (go (ltb (length (fields_from text from)) k) refl)
+    last-read k p l e = rw many_read (go (ltb (length (fields_from text from)) k) refl)
       where
         go : (b : Bool) → ltb (length (fields_from text from)) k ≡ b →
             (if b then Absent else Given (record { 0 = get_or r.values (k - 1) 0 }))
@@ -158,7 +158,7 @@ module _ (text : List ℕ) (from : ℕ) (r : Fields) where
       let v = value_read server_form text from r e w (omega arith) in
       rw (
         k,
-        p ∙ last_read server_form text from r e w 8 (omega arith) (omega arith) refl,
+        p ∙ last-read server_form text from r e w 8 (omega arith) (omega arith) refl,
         v 0 (omega arith),
         v 1 (omega arith),
         v 2 (omega arith),
@@ -170,8 +170,7 @@ module _ (text : List ℕ) (from : ℕ) (r : Fields) where
       )
       (form-has server_form text from r e w (OfServer (server_said (fields_from text from))))
 
-  pub task_read : (level : Level) (separation : LastField) → level ≡ level_at (get_or r.values 3 0) →
-      separation ≡ last_of r.count 8 (get_or r.values 7 0) →
+  pub task_read : (level : Level) → level ≡ level_at (get_or r.values 3 0) →
       ReadAs task_form text from r → r.wrong ≡ Nothing →
       OfTask (record {
         home = get_or r.values 0 0;
@@ -183,14 +182,12 @@ module _ (text : List ℕ) (from : ℕ) (r : Fields) where
           d1 = record { 0 = get_or r.values 5 0 };
           d2 = record { 0 = get_or r.values 6 0 };
         };
-        separation = separation;
       }) ≡ formed task_form (fields_from text from) (OfTask (task_said (fields_from text from)))
   unfolding task_form
-  task_read level separation k p e w =
+  task_read level k e w =
       let v = value_read task_form text from r e w (omega arith) in
       rw (
         k,
-        p ∙ last_read task_form text from r e w 8 (omega arith) (omega arith) refl,
         v 0 (omega arith),
         v 1 (omega arith),
         v 2 (omega arith),

@@ -12,17 +12,18 @@ use Rattle.laws.specs.RoundUp.{up}
 use Rattle.laws.proofs.Choice.{within_high, every_at}
 use Rattle.table.specs.declared.Table.{Table}
 use Rattle.table.specs.Rows.{rows_of, server_at}
+use Rattle.table.specs.Rules.{task_keeps}
 use Rattle.table.proofs.Rules.{place_below, rows_read}
 use Rattle.text.specs.declared.ServerLine.{ServerLine}
 use Rattle.text.specs.declared.TaskLine.{TaskLine}
 use Rattle.text.specs.declared.Word.TheVariants.{ATick, AServer, ATask}
 use Rattle.text.specs.declared.Line.{Line}
 use Rattle.text.specs.declared.Line.TheVariants.{OfTick, OfServer, OfTask, Malformed as MalformedLine}
-use Rattle.text.specs.Standing.{last_said, server_bounds, task_bounds, bounds, wholes, limits_of, fault, standing}
+use Rattle.text.specs.Standing.{phase_said, server_bounds, bounds, wholes, limits_of, task_of, fault, standing}
 use Rattle.reader.specs.declared.rules.Named.{Named}
 use Rattle.reader.specs.Inner.{Above, FewTicks, named_rows, standing_by}
 use Rattle.reader.proofs.Inner.{servers_count, tasks_count, servers_length, placed_by_lem}
-use Rattle.text.proofs.Bounds.{server_within, separation_within, separation_high}
+use Rattle.text.proofs.Bounds.{server_within}
 
 -- where a row is read there is one
 pub named_below : (l : Line) → ((named_rows l).home < 32) × ((named_rows l).degraded < 32)
@@ -72,7 +73,7 @@ pub record ServerFits (t : ℕ) (s : ServerLine) : Type 0 where
   pub n : s.capacity.n.0 ≤ 1000000 * t
   pub d1 : s.capacity.d1.0 ≤ 1000000 * t
   pub d2 : s.capacity.d2.0 ≤ 1000000 * t
-  pub phase : (last_said s.phase).0 ≤ 1000000 * t
+  pub phase : (phase_said s.phase).0 ≤ 1000000 * t
 
 pub server_fits : (m t : ℕ) (s : ServerLine) → every (server_bounds m t s) ≡ true → ServerFits t s
 server_fits m t s e =
@@ -90,18 +91,16 @@ server_fits m t s e =
 pub record TaskFits (t : ℕ) (k : TaskLine) : Type 0 where
   pub priority : k.priority ≤ 255
   pub limits : FewTicks t k.limit
-  pub separation : (last_said k.separation).0 ≤ 1000000 * t
 
-pub task_fits : (m t : ℕ) (k : TaskLine) → every (task_bounds m t k) ≡ true → TaskFits t k
-unfolding task_bounds
-task_fits m t k e =
-    let b = every_at (task_bounds m t k) e in
+pub task_fits : (t : ℕ) (k : TaskLine) → every (task_keeps (task_of t k)) ≡ true → TaskFits t k
+unfolding task_keeps
+task_fits t k e =
+    let b = every_at (task_keeps (task_of t k)) e in
     record {
-      priority = within_high 1 255 k.priority (b 3);
+      priority = within_high 1 255 k.priority (b 0);
       limits = (
-        within_high 1 100000 (up k.limit.n.0 t) (b 5),
-        within_high 1 100000 (up k.limit.d1.0 t) (b 6),
-        within_high 1 100000 (up k.limit.d2.0 t) (b 7),
+        within_high 1 100000 (up k.limit.n.0 t) (b 1),
+        within_high 1 100000 (up k.limit.d1.0 t) (b 2),
+        within_high 1 100000 (up k.limit.d2.0 t) (b 3),
       );
-      separation = separation_high t k.separation (separation_within t k.separation (b 8));
     }

@@ -26,7 +26,7 @@ use Rattle.text.specs.declared.Line.{Line}
 use Rattle.text.specs.declared.Line.TheVariants.{OfTick, OfServer, OfTask, Malformed as NoForm}
 use Rattle.text.specs.Line.{word_of}
 use Rattle.reader.specs.declared.rules.Named.{Named}
-use Rattle.text.specs.Standing.{anything, server_bounds, server_whole, task_bounds, task_whole, limits_of, tell◌at◌or◌}
+use Rattle.text.specs.Standing.{anything, server_bounds, server_whole, task_bounds, limits_of, tell◌at◌or◌}
 
 -- The table holds the rows above line n and nothing else. All lines but the first stand below a
 -- `tick` line.
@@ -62,7 +62,6 @@ server_standing tick servers s =
 abbrev pub task_standing : ℕ → Server → Server → ℕ → ℕ → TaskLine → Standing
 task_standing tick h d count tasks k =
     tell OutOfBounds at first_failed (task_bounds tasks tick k)
-    or tell NotWhole at first_failed (task_whole tick k)
     or rows_fault count h d k.home k.degraded (limits_of tick k.limit)
 
 -- Where the rows that a task line names are read. Other lines name none: row 0 is read.

@@ -111,7 +111,7 @@ fn task_line(text: &[u8], from: usize) -> LineRead
     requires { from ≤ length text.now }
     ensures { result ≡ read_behind ATask text.now from }
 {
-    let f = fields::read_fields(text, from, b"nnnlnnnn", 7);
+    let f = fields::read_fields(text, from, b"nnnlnnn", 7);
     let end = f.end;
     let wrong = f.wrong;
     if let Found::At(field) = wrong {
@@ -120,7 +120,6 @@ fn task_line(text: &[u8], from: usize) -> LineRead
     }
     let v = f.values;
     let level = level_at(v[3]);
-    let separation = last_at(f.count, 8, v[7]);
     let limit = Times {
         n: Micros(v[4]),
         d1: Micros(v[5]),
@@ -132,7 +131,6 @@ fn task_line(text: &[u8], from: usize) -> LineRead
         priority: v[2],
         level,
         limit,
-        separation,
     });
     LineRead { line, end }
 }

@@ -109,7 +109,7 @@ pub fn read_table(text: &[u8]) -> Read
             Line::OfTask(k) => {
                 let count = t.ntasks;
                 let tick = t.tick;
-                t.tasks[count] = rows::task_row(count, tick, k);
+                t.tasks[count] = rows::task_row(tick, k);
                 t.ntasks = count + 1;
             }
             Line::Malformed(_, _) => {}

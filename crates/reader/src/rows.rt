@@ -4,7 +4,8 @@
 ghost use Rattle.std.specs.Prelude.{◌≡◌, true, ◌*◌, ◌≤◌, ◌<◌};
 ghost use Rattle.laws.specs.Choice.{every};
 ghost use Rattle.laws.specs.RoundUp.{up};
-ghost use Rattle.text.specs.Standing.{in_ticks, last_said, server_of, rounded_up, limits_of, task_of, server_bounds, task_bounds};
+ghost use Rattle.table.specs.Rules.{task_keeps};
+ghost use Rattle.text.specs.Standing.{in_ticks, phase_said, server_of, rounded_up, limits_of, task_of, server_bounds};
 ghost use Rattle.reader.specs.Inner.{FewTicks};
 
 use table::{ByMode, Server, Task};
@@ -25,9 +26,9 @@ pub(crate) fn round_up(u: Micros, tick: Micros) -> Ticks
     Ticks(n as u32 + 1)
 }
 
-// "A row without the field has phase 0", and a task without it has no separation, which is 0 too.
-pub(crate) fn last_said(p: LastField) -> Micros
-    ensures { result ≡ last_said p }
+// "A row without the field has phase 0".
+pub(crate) fn phase_said(p: LastField) -> Micros
+    ensures { result ≡ phase_said p }
 {
     match p {
         LastField::Absent => Micros(0),
@@ -35,8 +36,7 @@ pub(crate) fn last_said(p: LastField) -> Micros
     }
 }
 
-// "all whole ticks": of a period, of a capacity or a phase, which is at most the period, or of a
-// separation.
+// "all whole ticks": of a period, or of a capacity or a phase, which is at most the period.
 fn in_ticks(u: Micros, tick: Micros) -> Ticks
     requires { (0 < tick.0) × (u.0 ≤ 1000000 * tick.0) }
     ensures { result ≡ in_ticks tick.0 u }
@@ -55,23 +55,19 @@ pub(crate) fn limits(x: Times, tick: Micros) -> ByMode
     ByMode { n, d1, d2 }
 }
 
-pub(crate) fn task_row(rows: usize, tick: Micros, k: TaskLine) -> Task
-    requires { (0 < tick.0) × (every (task_bounds rows tick.0 k) ≡ true) × (k.home < 32) × (k.degraded < 32) }
+pub(crate) fn task_row(tick: Micros, k: TaskLine) -> Task
+    requires { (0 < tick.0) × (every (task_keeps (task_of tick.0 k)) ≡ true) × (k.home < 32) × (k.degraded < 32) }
     ensures { result ≡ task_of tick.0 k }
 {
     let level = k.level;
     let x = k.limit;
     let limit = limits(x, tick);
-    let last = k.separation;
-    let said = last_said(last);
-    let separation = in_ticks(said, tick);
     Task {
         home: k.home as u8,
         degraded: k.degraded as u8,
         priority: k.priority as u8,
         level,
         limit,
-        separation,
     }
 }
 
@@ -86,7 +82,7 @@ pub(crate) fn server_row(rows: usize, tick: Micros, s: ServerLine) -> Server
     let d2 = in_ticks(c.d2, tick);
     let period = in_ticks(s.period, tick);
     let last = s.phase;
-    let said = last_said(last);
+    let said = phase_said(last);
     let phase = in_ticks(said, tick);
     let capacity = ByMode { n, d1, d2 };
     Server {

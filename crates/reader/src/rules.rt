@@ -8,14 +8,14 @@ ghost use Rattle.std.specs.Prelude.{◌≡◌, true, ◌+◌, ◌≤◌, ◌<◌
 ghost use Rattle.laws.specs.Search.{first_failed};
 ghost use Rattle.table.specs.Rules.{tick_keeps};
 ghost use Rattle.text.specs.Line.{word_of};
-ghost use Rattle.text.specs.Standing.{server_bounds, server_whole, separation_bound, task_bounds, task_whole};
+ghost use Rattle.text.specs.Standing.{server_bounds, server_whole, task_bounds};
 ghost use Rattle.reader.specs.Inner.{placed_by, tick_standing, server_standing, task_standing};
 ghost use Rattle.reader.specs.Inner.{named_rows, standing_by};
 
 use crate::rows;
 use laws::Found;
 use table::{Refusal, SERVERS, Server, Standing, TASKS, THE_LINE};
-use text::{LastField, Line, ServerLine, TaskLine, Word};
+use text::{Line, ServerLine, TaskLine, Word};
 use units::Micros;
 
 // Whether a tick of the period is left after the phase: "a phase above the period less one tick, in
@@ -39,7 +39,7 @@ fn server_bounds(rows: usize, tick: Micros, s: ServerLine) -> Found
     let lasts = laws::is_within(tick.0, 1000000 * tick.0, period);
     let c = s.capacity;
     let last = s.phase;
-    let said = rows::last_said(last);
+    let said = rows::phase_said(last);
     let starts = leaves_a_tick(said, tick, s.period);
     laws::first_failed(&[
         rows < SERVERS,
@@ -61,7 +61,7 @@ fn server_whole(tick: Micros, s: ServerLine) -> Found
     let period = s.period.0;
     let c = s.capacity;
     let last = s.phase;
-    let phase = rows::last_said(last).0;
+    let phase = rows::phase_said(last).0;
     laws::first_failed(&[
         true,
         true,
@@ -73,18 +73,6 @@ fn server_whole(tick: Micros, s: ServerLine) -> Found
         c.d2.0 % tick.0 == 0,
         phase % tick.0 == 0,
     ])
-}
-
-// "a least separation between releases, in whole ticks, 1 to 1,000,000": "out of bounds is 2",
-// where there is one.
-fn separation_bound(tick: Micros, p: LastField) -> bool
-    requires { tick.0 ≤ 10000 }
-    ensures { result ≡ separation_bound tick.0 p }
-{
-    match p {
-        LastField::Absent => true,
-        LastField::Given(u) => laws::is_within(tick.0, 1000000 * tick.0, u.0),
-    }
 }
 
 // A limit is rounded up and then 1 to 100,000 ticks exactly if it is 1 microsecond to 100,000
@@ -99,28 +87,7 @@ fn task_bounds(rows: usize, tick: Micros, k: TaskLine) -> Found
     let n = laws::is_within(1, most, limit.n.0);
     let d1 = laws::is_within(1, most, limit.d1.0);
     let d2 = laws::is_within(1, most, limit.d2.0);
-    let last = k.separation;
-    let apart = separation_bound(tick, last);
-    laws::first_failed(&[rows < TASKS, true, true, priority, true, n, d1, d2, apart])
-}
-
-fn task_whole(tick: Micros, k: TaskLine) -> Found
-    requires { 0 < tick.0 }
-    ensures { result ≡ first_failed (task_whole tick.0 k) }
-{
-    let last = k.separation;
-    let separation = rows::last_said(last).0;
-    laws::first_failed(&[
-        true,
-        true,
-        true,
-        true,
-        true,
-        true,
-        true,
-        true,
-        separation % tick.0 == 0,
-    ])
+    laws::first_failed(&[rows < TASKS, true, true, priority, true, n, d1, d2])
 }
 
 // Where a line may stand, by how many rows there are above it.
@@ -187,9 +154,6 @@ fn task_standing(
 {
     if let Found::At(field) = task_bounds(tasks, tick, k) {
         return Standing::Broken(Refusal::OutOfBounds, field);
-    }
-    if let Found::At(field) = task_whole(tick, k) {
-        return Standing::Broken(Refusal::NotWhole, field);
     }
     let x = k.limit;
     let limit = rows::limits(x, tick);

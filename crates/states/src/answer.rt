@@ -21,14 +21,6 @@ fn say_verdict(t: Table, row: usize, m: Mode) -> bool {
     }
 }
 
-fn say_response(t: Table, task: usize) -> bool {
-    match response::response_of(t, task) {
-        Verdict::Response(w) => say_line(b"response", &[1, w.0 as u64]),
-        Verdict::Misses => say_line(b"response", &[0, 0]),
-        Verdict::No(why) => say_no(why),
-    }
-}
-
 fn say_fits(f: Fits) -> bool {
     match f {
         Fits::Yes => say_line(b"fits", &[1, 0, 0]),
@@ -149,7 +141,6 @@ pub(crate) fn say_answer(b: Block, asked: Operation) -> bool {
         Operation::Release(task) => say_answered(scheduler::release(r, task)),
         Operation::Tick(mark) => say_answered(scheduler::tick(r, mark)),
         Operation::Verdict(row, m) => say_verdict(t, row, m),
-        Operation::Response(task) => say_response(t, task),
         Operation::Fits => say_fits(verdict::fits_of(t)),
         Operation::RunFits => say_fits(fitting::run_fits(r)),
         Operation::Write(size) => say_written(t, size),

@@ -30,7 +30,6 @@ pub enum Operation {
     Release(usize),
     Tick(bool),
     Verdict(usize, Mode),
-    Response(usize),
     Fits,
     RunFits,
     Write(usize),
@@ -77,13 +76,7 @@ fn by_mode(f: Fields) -> ByMode {
     }
 }
 
-// The last number of a server line and of a task line, a phase and a separation, is 0 where it is not
-// given: there is no number in its place.
-fn last_in(f: Fields) -> Ticks {
-    let v = f.values;
-    Ticks(narrow(v[8]))
-}
-
+// The phase is 0 where it is not given: there is no number in its place.
 fn server_in(f: Fields) -> Server {
     let v = f.values;
     Server {
@@ -92,7 +85,7 @@ fn server_in(f: Fields) -> Server {
         priority: byte(v[3]),
         period: Ticks(narrow(v[4])),
         capacity: by_mode(f),
-        phase: last_in(f),
+        phase: Ticks(narrow(v[8])),
     }
 }
 
@@ -104,7 +97,6 @@ fn task_in(f: Fields) -> Task {
         priority: byte(v[3]),
         level: level_of(v[4]),
         limit: by_mode(f),
-        separation: last_in(f),
     }
 }
 
@@ -132,7 +124,6 @@ fn table_of(tick: u64, nservers: usize, ntasks: usize) -> Table {
         priority: 0,
         level: Level::LO,
         limit: no_times(),
-        separation: Ticks(0),
     };
     Table {
         tick: Micros(tick),
@@ -212,9 +203,6 @@ fn table_operation_in(word: &[u8], f: Fields) -> Operation {
     let first = v[1];
     if is_line(word, f, b"verdict", &[LARGE, 2]) {
         return Operation::Verdict(first as usize, table::mode_said(v[2]));
-    }
-    if is_line(word, f, b"response", &[LARGE]) {
-        return Operation::Response(first as usize);
     }
     if is_line(word, f, b"fits", &[]) {
         return Operation::Fits;
@@ -332,12 +320,18 @@ fn add_queue(b: Block, f: Fields) -> Block {
 
 // A line of a table block that is no operation, but its first.
 pub(crate) fn take_row(b: Block, word: &[u8], f: Fields) -> Block {
-    let server = [BYTE, 1, BYTE, WIDE, WIDE, WIDE, WIDE, WIDE];
-    let task = [BYTE, BYTE, BYTE, 2, WIDE, WIDE, WIDE, WIDE];
-    if is_line(word, f, b"server", &server[..7]) || is_line(word, f, b"server", &server) {
+    if is_line(word, f, b"server", &[BYTE, 1, BYTE, WIDE, WIDE, WIDE, WIDE]) {
         return add_server(b, f);
     }
-    if is_line(word, f, b"task", &task[..7]) || is_line(word, f, b"task", &task) {
+    if is_line(
+        word,
+        f,
+        b"server",
+        &[BYTE, 1, BYTE, WIDE, WIDE, WIDE, WIDE, WIDE],
+    ) {
+        return add_server(b, f);
+    }
+    if is_line(word, f, b"task", &[BYTE, BYTE, BYTE, 2, WIDE, WIDE, WIDE]) {
         return add_task(b, f);
     }
     if is_line(word, f, b"state", &[2, WIDE, WIDE, 1, WIDE]) {

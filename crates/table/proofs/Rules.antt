@@ -26,7 +26,7 @@ use Rattle.table.specs.declared.Mode.TheVariants.{N, D1, D2}
 use Rattle.table.specs.declared.Server.{Server}
 use Rattle.table.specs.declared.Task.{Task}
 use Rattle.table.specs.declared.Table.{Table}
-use Rattle.table.specs.Rows.{Rows, rows_of, no_server, no_task, server_at, task_at, in_mode, is_timed, priority_at, period_at, capacity_at, phase_at, task_priority_at, limit_at, separation_at}
+use Rattle.table.specs.Rows.{Rows, rows_of, no_server, no_task, server_at, task_at, in_mode, is_timed, priority_at, period_at, capacity_at, phase_at, task_priority_at, limit_at}
 use Rattle.table.specs.Rules.{server_keeps, task_keeps, row_there, same_partition, degraded_timed, timed_at_home, task_fault, task_stands, differ, keeps, table_keeps}
 use Rattle.table.specs.Inner.{Sized, place_in, rows_fault}
 use Rattle.table.proofs.Inner.{all_in_use, column_apart}
@@ -50,7 +50,6 @@ pub record TaskRules (t : Table) (k : ℕ) : Type 0 where
   pub stays : is_timed (server_at t (task_at t k).home).kind ≡ true → (task_at t k).degraded ≡ (task_at t k).home
   pub limit_low : (m : Mode) → 1 ≤ limit_at t m k
   pub limit_high : (m : Mode) → limit_at t m k ≤ 100000
-  pub separation : separation_at t k ≤ 1000000
   pub rises : limit_at t N k ≤ limit_at t D1 k
   pub rises_on : limit_at t D1 k ≤ limit_at t D2 k
 
@@ -108,10 +107,6 @@ limits_high k e D2 = within_high 1 100000 k.limit.d2.0 (every_at (task_keeps k) 
 task_priority_lem : (k : Task) → every (task_keeps k) ≡ true → within 1 255 k.priority ≡ true
 unfolding task_keeps
 task_priority_lem k e = every_at (task_keeps k) e 0
-
-separation_high : (k : Task) → every (task_keeps k) ≡ true → k.separation.0 ≤ 1000000
-unfolding task_keeps
-separation_high k e = leb-true k.separation.0 1000000 (every_at (task_keeps k) e 4)
 
 -- 41 to 45, the first that applies: what breaks nothing passes each test
 unless_kept : (b : Bool) (why : Refusal) (field : ℕ) (r : Standing) → is_kept (unless b say Broken why field else r) ≡ true → (b ≡ true) × (is_kept r ≡ true)
@@ -242,7 +237,6 @@ task_rules t k l e =
           (rw u at f.stays);
       limit_low = limits_low x y.0;
       limit_high = limits_high x y.0;
-      separation = separation_high x y.0;
       rises = leb-true z.n.0 z.d1.0 f.rises;
       rises_on = leb-true z.d1.0 z.d2.0 f.rises_on;
     }

@@ -29,20 +29,9 @@ late_server phase partition kind priority period capacity =
 abbrev pub server : ℕ → Kind → ℕ → ℕ → ByMode → Server
 server = late_server 0
 
--- 02, No. 8: a task with a least separation between its releases, and one without the field
-abbrev pub apart_task : ℕ → ℕ → ℕ → ℕ → Level → ByMode → Task
-apart_task separation home degraded priority level limit =
-    record {
-      home = home;
-      degraded = degraded;
-      priority = priority;
-      level = level;
-      limit = limit;
-      separation = record { 0 = separation };
-    }
-
 abbrev pub task : ℕ → ℕ → ℕ → Level → ByMode → Task
-task = apart_task 0
+task home degraded priority level limit =
+    record { home = home; degraded = degraded; priority = priority; level = level; limit = limit }
 
 abbrev pub rows : List Server → List Task → Rows
 rows ss ks = record { tick = record { 0 = 1000 }; servers = ss; tasks = ks }

@@ -2,7 +2,7 @@
 -- place in the order given here".
 use Rattle.std.specs.Prelude.{Bool, true, false, ℕ}
 use Rattle.table.specs.declared.Refusal.{Refusal}
-use Rattle.table.specs.declared.Refusal.TheVariants.{Malformed, OutOfBounds, NotWhole, AbsentRow, OtherPartition, NotTimed, OtherServer, Falling, EqualPriorities, NoTask, LowInD2, QueueFull, NoJobRan, CountSpent, NoServer, RoomShort, Unsound, NoResponse}
+use Rattle.table.specs.declared.Refusal.TheVariants.{Malformed, OutOfBounds, NotWhole, AbsentRow, OtherPartition, NotTimed, OtherServer, Falling, EqualPriorities, NoTask, LowInD2, QueueFull, NoJobRan, CountSpent, NoServer, RoomShort, Unsound}
 use Rattle.table.specs.declared.Standing.{Standing}
 use Rattle.table.specs.declared.Standing.TheVariants.{Kept, Broken}
 
@@ -11,7 +11,7 @@ abbrev pub number_of : Refusal → ℕ
 number_of Malformed = 1
 -- a number or row count out of bounds; text too long
 number_of OutOfBounds = 2
--- period or capacity not whole ticks; 02, No. 7: nor a phase; No. 8: nor a separation
+-- period or capacity not whole ticks; 02, No. 7: nor a phase
 number_of NotWhole = 3
 -- absent server row
 number_of AbsentRow = 41
@@ -41,8 +41,6 @@ number_of NoServer = 11
 number_of RoomShort = 12
 -- a table or state handed in breaks the rules of this page
 number_of Unsound = 13
--- 02, No. 8: a task that has no response time, for its home's sake or for want of a separation
-number_of NoResponse = 14
 
 -- The paper's number of a standing, 0 where the rules are kept, and the field that is told with it:
 -- "counted from 1 after the leading word, or 0 for the line itself".

@@ -56,15 +56,7 @@ no_server =
     }
 
 abbrev pub no_task : Task
-no_task =
-    record {
-      home = 0;
-      degraded = 0;
-      priority = 0;
-      level = LO;
-      limit = no_ticks;
-      separation = record { 0 = 0 };
-    }
+no_task = record { home = 0; degraded = 0; priority = 0; level = LO; limit = no_ticks }
 
 abbrev pub server_at : Table → ℕ → Server
 server_at t i = get_or t.servers i no_server
@@ -99,13 +91,6 @@ task_priority_at t k = (task_at t k).priority
 
 abbrev pub limit_at : Table → Mode → ℕ → ℕ
 limit_at t m k = (in_mode (task_at t k).limit m).0
-
-abbrev pub home_at : Table → ℕ → ℕ
-home_at t k = (task_at t k).home
-
--- 02, No. 8: "a least separation between releases", 0 where the row has none
-abbrev pub separation_at : Table → ℕ → ℕ
-separation_at t k = (task_at t k).separation.0
 
 -- the rows in use, and nothing else of a table
 pub record Rows : Type 0 where

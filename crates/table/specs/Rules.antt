@@ -39,15 +39,13 @@ server_keeps s =
 abbrev pub limit_keeps : ℕ → Bool
 limit_keeps = within 1 100000
 
--- "priority 1 to 255, greater first; level; limits for N, D1, D2". 02, No. 8: "as a last field that
--- may be absent, a least separation between releases, in whole ticks, 1 to 1,000,000": 0 is none.
+-- "priority 1 to 255, greater first; level; limits for N, D1, D2"
 unfoldable pub task_keeps : Task → List Bool
 task_keeps k =
     priority_keeps k.priority
     ∷ limit_keeps k.limit.n.0
     ∷ limit_keeps k.limit.d1.0
     ∷ limit_keeps k.limit.d2.0
-    ∷ leb k.separation.0 1000000
     ∷ []
 
 -- "home server; degraded server": rows of the table

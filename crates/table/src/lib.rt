@@ -57,7 +57,6 @@ pub struct Server {
     pub phase: Ticks,
 }
 
-// The least separation between releases of a task is 0 where its row has none.
 #[derive(Drop)]
 pub struct Task {
     pub home: u8,
@@ -65,7 +64,6 @@ pub struct Task {
     pub priority: u8,
     pub level: Level,
     pub limit: ByMode,
-    pub separation: Ticks,
 }
 
 // The rows in use are the first nservers and the first ntasks.
@@ -98,7 +96,6 @@ pub enum Refusal {
     NoServer,
     RoomShort,
     Unsound,
-    NoResponse,
 }
 
 // The paper's number for no.
@@ -123,7 +120,6 @@ pub fn number_of(why: Refusal) -> u64
         Refusal::NoServer => 11,
         Refusal::RoomShort => 12,
         Refusal::Unsound => 13,
-        Refusal::NoResponse => 14,
     }
 }
 
@@ -178,7 +174,6 @@ pub fn no_table() -> Table
         priority: 0,
         level: Level::LO,
         limit: none,
-        separation: Ticks(0),
     };
     Table {
         tick: Micros(0),
@@ -357,7 +352,7 @@ fn task_keeps(k: Task) -> bool
     let n = laws::is_within(1, 100000, x.n.0 as u64);
     let d1 = laws::is_within(1, 100000, x.d1.0 as u64);
     let d2 = laws::is_within(1, 100000, x.d2.0 as u64);
-    laws::all_of(&[priority, n, d1, d2, k.separation.0 <= 1000000])
+    laws::all_of(&[priority, n, d1, d2])
 }
 
 // The place in the array of the row that a task names, and 0 where the array has no such place, so

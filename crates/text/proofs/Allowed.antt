@@ -6,33 +6,34 @@ use mathlib.Core.Bool.{true, not}
 use mathlib.Core.List.{List, [], ◌∷◌, ◌++◌, map, append_assoc, append-nil}
 use Prim.Native.Nat.{ℕ, suc, ◌+◌, ◌≤◌, ◌<◌}
 use native.Mathlib.Omega.{arith}
+use lib.Dec.{ltb}
 use lib.ListN.{length, get_or, length-append}
 use borrow.Author.Tests.{lt-ltb}
-use Rattle.laws.specs.Choice.{every, within}
-use Rattle.laws.specs.RoundUp.{up}
+use Rattle.laws.specs.Choice.{every, within, unless◌say◌else◌}
 use Rattle.laws.specs.Rows.{all_below}
+use Rattle.laws.specs.Search.{first_failed}
 use Rattle.laws.proofs.Choice.{every_at, within_low, within_high, is_within}
 use Rattle.laws.proofs.Rows.{all_at, all_build}
 use Rattle.units.specs.declared.Micros.{Micros}
 use Rattle.table.specs.declared.Server.{Server}
 use Rattle.table.specs.declared.Task.{Task}
 use Rattle.table.specs.Rows.{Rows, no_rows, no_server, no_task}
-use Rattle.table.specs.Rules.{tick_keeps, server_keeps, task_fault, task_stands, differ, keeps}
+use Rattle.table.specs.Rules.{tick_keeps, priority_keeps, limit_keeps, server_keeps, task_fault, task_stands, differ, keeps}
 use Rattle.table.proofs.Rules.{rows_there, stands_keeps}
-use Rattle.table.specs.declared.Standing.TheVariants.{Kept}
+use Rattle.table.specs.declared.Standing.TheVariants.{Kept, Broken}
 use Rattle.table.specs.declared.Pair.TheVariants.{Differ}
-use Rattle.table.specs.declared.Refusal.TheVariants.{Malformed as MalformedWhy}
+use Rattle.table.specs.declared.Refusal.TheVariants.{Malformed as MalformedWhy, OutOfBounds, NotWhole}
 use Rattle.table.specs.Pairs.{equal_servers, equal_tasks}
 use Rattle.table.proofs.Pairs.{differ_pair, pair_differ}
 use Rattle.text.specs.declared.Line.{Line}
 use Rattle.text.specs.declared.Line.TheVariants.{OfTick, OfServer, OfTask, Malformed}
-use Rattle.text.specs.Standing.{is_nil, placed, bounds, server_bounds, task_bounds, wholes, server_whole, task_whole, fault, standing, grown}
+use Rattle.text.specs.Standing.{is_nil, anything, task_of, placed, bounds, server_bounds, task_bounds, wholes, server_whole, fault, tell◌at◌or◌, standing, grown}
 use Rattle.text.specs.Allowed.{KeptFrom, grown_by, Allowed}
 use Rattle.text.specs.Write.{server_back, task_back, server_lines, task_lines, lines_of}
 use Rattle.text.proofs.Lines.{Writable}
-use Rattle.text.proofs.Ticks.{up_times, said_left_out, server_there, task_there, rounded}
+use Rattle.text.proofs.Ticks.{said_left_out, server_there, task_there, rounded}
 use Rattle.text.proofs.Bounds.{within_tick}
-use Rattle.text.proofs.Standing.{not_nil, standing_keeps, keeps_standing, server_bounded, server_whole_lem, task_bounded, task_whole_lem, Good, stepped, stands_first, tick_line, tick_writable}
+use Rattle.text.proofs.Standing.{not_nil, standing_keeps, keeps_standing, server_bounded, server_whole_lem, task_bounded, Good, stepped, stands_first, tick_line, tick_writable}
 use Rattle.text.specs.declared.Reading.TheVariants.{Taken}
 use Rattle.text.specs.Line.{read_line}
 use Rattle.text.specs.TableText.{rows_grown}
@@ -45,16 +46,27 @@ AllWritable (l ∷ ls) = Writable l × AllWritable ls
 
 -- rounding a task's times up to a tick and leaving a phase 0 out change nothing that is judged
 rounded_standing : (n : ℕ) (a : Rows) (l : Line) → 0 < a.tick.0 → standing n a (rounded a.tick.0 l) ≡ standing n a l
-unfolding rounded standing placed bounds server_bounds task_bounds wholes server_whole task_whole fault
+unfolding rounded standing placed bounds server_bounds task_bounds wholes server_whole fault
 rounded_standing n a (OfTick t) h = refl
 rounded_standing n a (OfServer s) h = rw (said_left_out s.phase)
 rounded_standing n a (OfTask k) h =
     let t = a.tick.0 in
-    rw (
-      up_times (up k.limit.n.0 t) t h,
-      up_times (up k.limit.d1.0 t) t h,
-      up_times (up k.limit.d2.0 t) t h,
-    )
+    ap
+    (λ (x : Task).
+    unless not (is_nil a.servers) say Broken MalformedWhy 0
+    else tell OutOfBounds at first_failed
+    (ltb (length a.tasks) 64
+    ∷ anything
+    ∷ anything
+    ∷ priority_keeps x.priority
+    ∷ anything
+    ∷ limit_keeps x.limit.n.0
+    ∷ limit_keeps x.limit.d1.0
+    ∷ limit_keeps x.limit.d2.0
+    ∷ [])
+    or tell NotWhole at first_failed []
+    or task_fault a.servers x.home x.degraded x.limit)
+    (task_there t h (task_of t k))
 rounded_standing n a (Malformed word field) h = refl
 
 -- the lines after the `tick` line
@@ -207,8 +219,8 @@ task_taken n t ss ks k p h l e =
     (record {
       stands = rw (not_nil ss h);
       formed = refl;
-      bounded = task_bounded (length ks) t.0 k p l y.0;
-      whole = task_whole_lem t.0 k;
+      bounded = task_bounded (length ks) t.0 (task_back t.0 k) l (rw (task_there t.0 p k) y.0);
+      whole = refl;
       fits = ap (λ (x : Task). task_fault ss x.home x.degraded x.limit) (task_there t.0 p k) ∙ y.1;
     })
 

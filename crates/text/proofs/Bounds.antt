@@ -16,12 +16,10 @@ use Rattle.laws.proofs.Choice.{and_true, every_at, within_low, within_high, is_w
 use Rattle.laws.proofs.RoundUp.{up_le, le_up, lt_up}
 use Rattle.units.specs.declared.Micros.{Micros}
 use Rattle.table.specs.Rows.{Rows}
-use Rattle.text.specs.declared.LastField.{LastField}
-use Rattle.text.specs.declared.LastField.TheVariants.{Absent, Given}
 use Rattle.text.specs.declared.ServerLine.{ServerLine}
 use Rattle.text.specs.declared.TaskLine.{TaskLine}
 use Rattle.text.specs.declared.Line.TheVariants.{OfTick}
-use Rattle.text.specs.Standing.{last_said, server_bounds, separation_bound, task_bounds, bounds}
+use Rattle.text.specs.Standing.{phase_said, server_bounds, task_bounds, bounds}
 
 -- every test of a list holds if each does
 infixr 5 ◌also◌
@@ -60,7 +58,7 @@ pub record ServerWithin (rows t : ℕ) (s : ServerLine) : Type 0 where
   pub n : s.capacity.n.0 ≤ s.period.0
   pub d1 : s.capacity.d1.0 ≤ s.period.0
   pub d2 : s.capacity.d2.0 ≤ s.period.0
-  pub phase : (last_said s.phase).0 + t ≤ s.period.0
+  pub phase : (phase_said s.phase).0 + t ≤ s.period.0
 
 pub server_within : (rows t : ℕ) (s : ServerLine) → every (server_bounds rows t s) ≡ true → ServerWithin rows t s
 unfolding server_bounds
@@ -76,7 +74,7 @@ server_within rows t s e =
       n = leb-true s.capacity.n.0 s.period.0 (b 5);
       d1 = leb-true s.capacity.d1.0 s.period.0 (b 6);
       d2 = leb-true s.capacity.d2.0 s.period.0 (b 7);
-      phase = leb-true ((last_said s.phase).0 + t) s.period.0 (b 8);
+      phase = leb-true ((phase_said s.phase).0 + t) s.period.0 (b 8);
     }
 
 pub within_server : (rows t : ℕ) (s : ServerLine) → ServerWithin rows t s → every (server_bounds rows t s) ≡ true
@@ -91,7 +89,7 @@ within_server rows t s w =
     also le-leb s.capacity.n.0 s.period.0 w.n
     also le-leb s.capacity.d1.0 s.period.0 w.d1
     also le-leb s.capacity.d2.0 s.period.0 w.d2
-    also le-leb ((last_said s.phase).0 + t) s.period.0 w.phase
+    also le-leb ((phase_said s.phase).0 + t) s.period.0 w.phase
     also none)
 
 pub server_bounds_exactly : (rows t : ℕ) (s : ServerLine) →
@@ -121,23 +119,6 @@ limit_exactly t u h = go (within 1 (100000 * t) u) (within 1 100000 (up u t)) re
         sym p ∙ is_within 1 (100000 * t) u l g
     go false false p q = refl
 
--- a separation, where there is one
-abbrev pub SeparationWithin : ℕ → LastField → Type 0
-SeparationWithin t Absent = Unit {0}
-SeparationWithin t (Given u) = (t ≤ u.0) × (u.0 ≤ 1000000 * t)
-
-within_separation : (t : ℕ) (p : LastField) → SeparationWithin t p → separation_bound t p ≡ true
-within_separation t Absent w = refl
-within_separation t (Given u) w = is_within t (1000000 * t) u.0 w.0 w.1
-
-pub separation_within : (t : ℕ) (p : LastField) → separation_bound t p ≡ true → SeparationWithin t p
-separation_within t Absent e = tt
-separation_within t (Given u) e = (within_low t (1000000 * t) u.0 e, within_high t (1000000 * t) u.0 e)
-
-pub separation_high : (t : ℕ) (p : LastField) → SeparationWithin t p → (last_said p).0 ≤ 1000000 * t
-separation_high t Absent w = omega arith
-separation_high t (Given u) w = w.1
-
 -- a task's line below `rows` others
 pub record TaskWithin (rows t : ℕ) (k : TaskLine) : Type 0 where
   pub room : rows < 64
@@ -149,7 +130,6 @@ pub record TaskWithin (rows t : ℕ) (k : TaskLine) : Type 0 where
   pub d1_high : k.limit.d1.0 ≤ 100000 * t
   pub d2_low : 1 ≤ k.limit.d2.0
   pub d2_high : k.limit.d2.0 ≤ 100000 * t
-  pub separation : SeparationWithin t k.separation
 
 pub within_task : (rows t : ℕ) (k : TaskLine) → 0 < t → TaskWithin rows t k → every (task_bounds rows t k) ≡ true
 unfolding task_bounds
@@ -163,7 +143,6 @@ within_task rows t k h w =
     also limit_within t k.limit.n.0 h w.n_low w.n_high
     also limit_within t k.limit.d1.0 h w.d1_low w.d1_high
     also limit_within t k.limit.d2.0 h w.d2_low w.d2_high
-    also within_separation t k.separation w.separation
     also none)
 
 pub task_within : (rows t : ℕ) (k : TaskLine) → 0 < t → every (task_bounds rows t k) ≡ true → TaskWithin rows t k
@@ -183,7 +162,6 @@ task_within rows t k h e =
       d1_high = limit_high t d1 h (within_high 1 100000 (up d1 t) (b 6));
       d2_low = limit_low t d2 h (within_low 1 100000 (up d2 t) (b 7));
       d2_high = limit_high t d2 h (within_high 1 100000 (up d2 t) (b 7));
-      separation = separation_within t k.separation (b 8);
     }
 
 pub task_bounds_exactly : (rows t : ℕ) (k : TaskLine) → 0 < t →

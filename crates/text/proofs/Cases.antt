@@ -20,7 +20,7 @@ use Rattle.table.specs.Rules.{table_keeps, keeps, server_keeps, task_keeps, task
 use Rattle.table.specs.Pairs.{later_equal, first_pair}
 use Rattle.text.specs.Words.{tick_word, server_word, task_word, event_word, timed_word, lo_word, mi_word, hi_word}
 use Rattle.text.specs.Line.{tick_form, server_form, task_form, field_tests, form_tests, line_by, line_of, read_line, fields_of, write_line}
-use Rattle.text.specs.Standing.{placed, server_bounds, task_bounds, bounds, server_whole, task_whole, wholes, fault, standing, grown}
+use Rattle.text.specs.Standing.{placed, server_bounds, task_bounds, bounds, server_whole, wholes, fault, standing, grown}
 use Rattle.text.specs.Read.{reading_number, reading_values, compared, ended, read}
 use Rattle.text.specs.Write.{server_lines, task_lines, lines_of, write, wrote, all_lines, times_whole, no_phase_zero}
 
@@ -29,7 +29,7 @@ unfolding
     every least first_failed first_of up all_below are_digits number_form is_number worth_from digits_in digits split join closed same table_of
     table_keeps keeps server_keeps task_keeps task_fault task_stands differ later_equal first_pair tick_word server_word
     task_word event_word timed_word lo_word mi_word hi_word tick_form server_form task_form field_tests form_tests line_by line_of read_line
-    fields_of write_line placed server_bounds task_bounds bounds server_whole task_whole wholes fault standing grown compared
+    fields_of write_line placed server_bounds task_bounds bounds server_whole wholes fault standing grown compared
     ended read server_lines task_lines lines_of write wrote all_lines
 computed = tt
 
@@ -169,63 +169,3 @@ phase_of_0_left_out = refl
 pub phase_of_0_written : no_phase_zero (above "2000\t1000\t1000\t1000\t0") ≡ false
 unfolding computed
 phase_of_0_written = refl
-
--- 02, No. 8: a task with "a least separation between releases, in whole ticks, 1 to 1,000,000", as
--- "a last field that may be absent"
-pub separation_of_one_tick : said (whole "1000\t1000\t1000\t1000") ≡ 0 ∷ []
-unfolding computed
-separation_of_one_tick = refl
-
-pub separation_of_1000000_ticks : said (whole "1000\t1000\t1000\t1000000000") ≡ 0 ∷ []
-unfolding computed
-separation_of_1000000_ticks = refl
-
-pub separation_of_0 : said (whole "1000\t1000\t1000\t0") ≡ 2 ∷ 3 ∷ 8 ∷ []
-unfolding computed
-separation_of_0 = refl
-
--- a microsecond past a bound, and not whole: 2 comes before 3
-pub separation_below_a_tick : said (whole "1000\t1000\t1000\t999") ≡ 2 ∷ 3 ∷ 8 ∷ []
-unfolding computed
-separation_below_a_tick = refl
-
-pub separation_too_long : said (whole "1000\t1000\t1000\t1000000001") ≡ 2 ∷ 3 ∷ 8 ∷ []
-unfolding computed
-separation_too_long = refl
-
-pub separation_after_a_limit : said (whole "1000\t1000\t0\t0") ≡ 2 ∷ 3 ∷ 7 ∷ []
-unfolding computed
-separation_after_a_limit = refl
-
-pub separation_not_whole : said (whole "1000\t1000\t1000\t1500") ≡ 3 ∷ 3 ∷ 8 ∷ []
-unfolding computed
-separation_not_whole = refl
-
--- 3 comes before 41, though the row is told at an earlier field, and before 45
-pub separation_before_a_row :
-    said (server "1000" "2000\t1000\t1000\t1000" ++ lined ("task\t1\t1\t1\tLO\t1000\t1000\t1000\t1500" ∷ []))
-    ≡ 3 ∷ 3 ∷ 8 ∷ []
-unfolding computed
-separation_before_a_row = refl
-
-pub separation_before_falling_limits : said (whole "2000\t1000\t1000\t1500") ≡ 3 ∷ 3 ∷ 8 ∷ []
-unfolding computed
-separation_before_falling_limits = refl
-
-pub separation_empty : said (whole "1000\t1000\t1000\t") ≡ 1 ∷ 3 ∷ 8 ∷ []
-unfolding computed
-separation_empty = refl
-
--- the count of fields comes before a malformed separation
-pub field_after_the_separation : said (whole "1000\t1000\t1000\t\t") ≡ 1 ∷ 3 ∷ 0 ∷ []
-unfolding computed
-field_after_the_separation = refl
-
--- it is written as it was, beside a limit that is rounded up
-pub separation_written : write (read (whole "1000\t1000\t1000\t5000")).rows ≡ whole "1000\t1000\t1000\t5000"
-unfolding computed
-separation_written = refl
-
-pub limit_rounded_up_beside : write (read (whole "1\t1000\t1000\t5000")).rows ≡ whole "1000\t1000\t1000\t5000"
-unfolding computed
-limit_rounded_up_beside = refl

@@ -26,12 +26,13 @@ use Rattle.table.specs.declared.Level.TheVariants.{LO, MI, HI}
 use Rattle.text.specs.declared.Times.{Times}
 use Rattle.text.specs.declared.LastField.{LastField}
 use Rattle.text.specs.declared.LastField.TheVariants.{Absent, Given}
+use Rattle.text.specs.declared.ServerLine.{ServerLine}
 use Rattle.text.specs.declared.Word.{Word}
 use Rattle.text.specs.declared.Word.TheVariants.{ATick, AServer, ATask, Unknown}
 use Rattle.text.specs.declared.Line.{Line}
 use Rattle.text.specs.declared.Line.TheVariants.{OfTick, OfServer, OfTask, Malformed}
 use Rattle.text.specs.Words.{tick_word, server_word, task_word, event_word, timed_word, lo_word, mi_word, hi_word, is_kind, kind_of, kind_word, is_level, level_of, level_word}
-use Rattle.text.specs.Line.{Expected, a_number, a_kind, a_level, fits, Form, tick_form, server_form, task_form, field_tests, form_tests, micros_at, last_at, server_said, task_said, leading, word_of, said_unless, formed, line_by, line_of, read_line, times_fields, last_fields, fields_of, write_line}
+use Rattle.text.specs.Line.{Expected, a_number, a_kind, a_level, fits, Form, tick_form, server_form, task_form, field_tests, form_tests, micros_at, server_said, task_said, leading, word_of, said_unless, formed, line_by, line_of, read_line, times_fields, last_fields, fields_of, write_line}
 
 -- A line that has a text: it has a form, and each number has at most 11 digits.
 abbrev pub Short : ℕ → Type 0
@@ -48,8 +49,7 @@ abbrev pub Writable : Line → Type 0
 Writable (OfTick t) = Short t.0
 Writable (OfServer s) =
     Short s.partition × Short s.priority × Short s.period.0 × ShortTimes s.capacity × ShortLast s.phase
-Writable (OfTask k) =
-    Short k.home × Short k.degraded × Short k.priority × ShortTimes k.limit × ShortLast k.separation
+Writable (OfTask k) = Short k.home × Short k.degraded × Short k.priority × ShortTimes k.limit
 Writable (Malformed word field) = ⊥
 
 abbrev pub Formed : Line → Type 0
@@ -148,38 +148,25 @@ formed_ind P form fs said f m = go (first_failed (form_tests form fs)) refl
     go (At field) e = m field
     go Nothing e = f ((failed_none (form_tests form fs)).0 e)
 
--- the last field, where the seven before it are there: it may be absent, it is a number where it is
--- given, and it is read as it was written
-last_counted : (a b c d : List ℕ) (x : Times) (p : LastField) →
-    within 7 8 (length (a ∷ b ∷ c ∷ d ∷ (times_fields x ++ last_fields p))) ≡ true
-last_counted a b c d x Absent = refl
-last_counted a b c d x (Given u) = refl
+-- what the fields of a server's line say, with its last field or without
+abbrev with_phase : ServerLine → LastField → ServerLine
+with_phase s p =
+    record {
+      partition = s.partition;
+      kind = s.kind;
+      priority = s.priority;
+      period = s.period;
+      capacity = s.capacity;
+      phase = p;
+    }
 
-last_number : (p : LastField) → ShortLast p → every (field_tests (a_number ∷ []) (last_fields p)) ≡ true
-unfolding field_tests every
-last_number Absent w = refl
-last_number (Given u) w = rw (number_digits u.0 w)
-
-last_read : (a b c d : List ℕ) (x : Times) (p : LastField) →
-    last_at (a ∷ b ∷ c ∷ d ∷ (times_fields x ++ last_fields p)) 8 ≡ p
-last_read a b c d x Absent = refl
-last_read a b c d x (Given u) = rw (worth_digits u.0)
-
--- what the fields of a line say
-line_of_fields : (l : Line) → Writable l → line_of (fields_of l) ≡ l
-unfolding line_of line_by fields_of tick_form server_form task_form form_tests field_tests every same tick_word server_word task_word
-line_of_fields (OfTick t) w =
-    let fs = digits t.0 ∷ [] in
-    said_formed tick_form fs (OfTick (micros_at fs 1)) (rw (number_digits t.0 w)) ∙ rw (worth_digits t.0)
-line_of_fields (OfServer s) w =
-    let a = digits s.partition in
-    let b = kind_word s.kind in
-    let c = digits s.priority in
-    let d = digits s.period.0 in
-    let fs = a ∷ b ∷ c ∷ d ∷ (times_fields s.capacity ++ last_fields s.phase) in
+server_of_fields : (s : ServerLine) (p : LastField) → Writable (OfServer (with_phase s p)) →
+    line_of (fields_of (OfServer (with_phase s p))) ≡ OfServer (with_phase s p)
+unfolding line_of line_by fields_of server_form form_tests field_tests every same tick_word server_word task_word
+server_of_fields s Absent w =
+    let fs = digits s.partition ∷ kind_word s.kind ∷ digits s.priority ∷ digits s.period.0 ∷ times_fields s.capacity in
     said_formed server_form fs (OfServer (server_said fs))
     (rw (
-      last_counted a b c d s.capacity s.phase,
       number_digits s.partition w.0,
       kind_word_lem s.kind,
       number_digits s.priority w.1,
@@ -187,10 +174,8 @@ line_of_fields (OfServer s) w =
       number_digits s.capacity.n.0 w.3.0,
       number_digits s.capacity.d1.0 w.3.1,
       number_digits s.capacity.d2.0 w.3.2,
-      last_number s.phase w.4,
     ))
     ∙ rw (
-      last_read a b c d s.capacity s.phase,
       worth_digits s.partition,
       kind_back s.kind,
       worth_digits s.priority,
@@ -199,15 +184,46 @@ line_of_fields (OfServer s) w =
       worth_digits s.capacity.d1.0,
       worth_digits s.capacity.d2.0,
     )
+server_of_fields s (Given u) w =
+    let fs =
+    digits s.partition
+    ∷ kind_word s.kind
+    ∷ digits s.priority
+    ∷ digits s.period.0
+    ∷ (times_fields s.capacity ++ (digits u.0 ∷ [])) in
+    said_formed server_form fs (OfServer (server_said fs))
+    (rw (
+      number_digits s.partition w.0,
+      kind_word_lem s.kind,
+      number_digits s.priority w.1,
+      number_digits s.period.0 w.2,
+      number_digits s.capacity.n.0 w.3.0,
+      number_digits s.capacity.d1.0 w.3.1,
+      number_digits s.capacity.d2.0 w.3.2,
+      number_digits u.0 w.4,
+    ))
+    ∙ rw (
+      worth_digits s.partition,
+      kind_back s.kind,
+      worth_digits s.priority,
+      worth_digits s.period.0,
+      worth_digits s.capacity.n.0,
+      worth_digits s.capacity.d1.0,
+      worth_digits s.capacity.d2.0,
+      worth_digits u.0,
+    )
+
+-- what the fields of a line say
+line_of_fields : (l : Line) → Writable l → line_of (fields_of l) ≡ l
+unfolding line_of line_by fields_of tick_form server_form task_form form_tests field_tests every same tick_word server_word task_word
+line_of_fields (OfTick t) w =
+    let fs = digits t.0 ∷ [] in
+    said_formed tick_form fs (OfTick (micros_at fs 1)) (rw (number_digits t.0 w)) ∙ rw (worth_digits t.0)
+line_of_fields (OfServer s) w = server_of_fields s s.phase w
 line_of_fields (OfTask k) w =
-    let a = digits k.home in
-    let b = digits k.degraded in
-    let c = digits k.priority in
-    let d = level_word k.level in
-    let fs = a ∷ b ∷ c ∷ d ∷ (times_fields k.limit ++ last_fields k.separation) in
+    let fs = digits k.home ∷ digits k.degraded ∷ digits k.priority ∷ level_word k.level ∷ times_fields k.limit in
     said_formed task_form fs (OfTask (task_said fs))
     (rw (
-      last_counted a b c d k.limit k.separation,
       number_digits k.home w.0,
       number_digits k.degraded w.1,
       number_digits k.priority w.2,
@@ -215,10 +231,8 @@ line_of_fields (OfTask k) w =
       number_digits k.limit.n.0 w.3.0,
       number_digits k.limit.d1.0 w.3.1,
       number_digits k.limit.d2.0 w.3.2,
-      last_number k.separation w.4,
     ))
     ∙ rw (
-      last_read a b c d k.limit k.separation,
       worth_digits k.home,
       worth_digits k.degraded,
       worth_digits k.priority,
@@ -261,7 +275,6 @@ fields_high (OfTask k) =
       high_digits k.limit.n.0,
       high_digits k.limit.d1.0,
       high_digits k.limit.d2.0,
-      last_high k.separation,
     )
 fields_high (Malformed word field) = refl
 
@@ -355,29 +368,17 @@ form_back form fs n e h =
     let t = every (field_tests form.fields fs) in
     rw (← e) (back_all form.fields fs (form_count form fs h).1 (and_right c t h))
 
--- a line with a last field goes on to it or ends before it
-last_ind : (form : Form) (fs : List (List ℕ)) → form.least ≡ 7 → length form.fields ≡ 8 → Has form fs →
-    (P : LastField → Type 0) → (back_from (take 7 form.fields) 0 fs ≡ fs → P Absent) →
-    (back_from (take 8 form.fields) 0 fs ≡ fs → P (Given (micros_at fs 8))) → P (last_at fs 8)
-last_ind form fs l m h P f g =
-    let c = form_count form fs h in
-    if_ind P (ltb (length fs) 8)
-    (λ e. f (form_back form fs 7 (omega (arith, c, l, m, ltb-true (length fs) 8 e)) h))
-    (λ e. g (form_back form fs 8 (omega (arith, c, l, m, ltb-false (length fs) 8 e)) h))
-
+-- a server's line goes on to its last field or ends before it
 server_fields : (fs : List (List ℕ)) → Has server_form fs → fields_of (OfServer (server_said fs)) ≡ server_word ∷ fs
 unfolding fields_of server_form back back_from
-server_fields fs h =
-    ap (λ r. server_word ∷ r)
-    (last_ind server_form fs refl refl h (λ p. back_from (take 7 server_form.fields) 0 fs ++ last_fields p ≡ fs)
-    (λ e. e) (λ e. e))
+server_fields fs h = go (ltb (length fs) 8) refl
+  where
+    c : (7 ≤ length fs) × (length fs ≤ 8)
+    c = form_count server_form fs h
 
-task_fields : (fs : List (List ℕ)) → Has task_form fs → fields_of (OfTask (task_said fs)) ≡ task_word ∷ fs
-unfolding fields_of task_form back back_from
-task_fields fs h =
-    ap (λ r. task_word ∷ r)
-    (last_ind task_form fs refl refl h (λ p. back_from (take 7 task_form.fields) 0 fs ++ last_fields p ≡ fs)
-    (λ e. e) (λ e. e))
+    go : (b : Bool) → ltb (length fs) 8 ≡ b → fields_of (OfServer (server_said fs)) ≡ server_word ∷ fs
+    go true e = rw e (ap (λ r. server_word ∷ r) (form_back server_form fs 7 (omega (arith, c, ltb-true (length fs) 8 e)) h))
+    go false e = rw e (ap (λ r. server_word ∷ r) (form_back server_form fs 8 (omega (arith, c, ltb-false (length fs) 8 e)) h))
 
 fields_of_line : (fs : List (List ℕ)) → Formed (line_of fs) → fields_of (line_of fs) ≡ fs
 unfolding fields_of tick_form server_form task_form back back_from line_of line_by
@@ -392,7 +393,7 @@ fields_of_line (w ∷ fs) f =
     (λ h u. server_fields fs h ∙ ap (λ x. x ∷ fs) e) (λ field u. absurd u))
     (λ e.
     formed_ind (λ l. Formed l → fields_of l ≡ w ∷ fs) task_form fs (OfTask (task_said fs))
-    (λ h u. task_fields fs h ∙ ap (λ x. x ∷ fs) e) (λ field u. absurd u))
+    (λ h u. ap₂ ◌∷◌ e (form_back task_form fs 7 (omega (arith, form_count task_form fs h)) h)) (λ field u. absurd u))
     (λ u. absurd u)
     f
 
@@ -450,7 +451,7 @@ fields_length (OfTask k) w = (
       short_digits k.degraded w.1,
       (
         short_digits k.priority w.2,
-        (level_length k.level, last_length k.limit k.separation w.3 w.4),
+        (level_length k.level, times_length k.limit w.3),
       ),
     ),
   ),
@@ -465,7 +466,7 @@ fields_many : (l : Line) → length (fields_of l) ≤ 9
 unfolding fields_of
 fields_many (OfTick t) = omega arith
 fields_many (OfServer s) = omega (arith, last_many s.phase)
-fields_many (OfTask k) = omega (arith, last_many k.separation)
+fields_many (OfTask k) = omega arith
 fields_many (Malformed word field) = omega arith
 
 pub line_length : (l : Line) → Writable l → length (write_line l) ≤ 108

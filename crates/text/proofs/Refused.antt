@@ -14,7 +14,7 @@ use Rattle.laws.proofs.Choice.{if_ind}
 use Rattle.table.specs.declared.Table.{Table}
 use Rattle.table.specs.declared.Refusal.{Refusal}
 use Rattle.table.specs.declared.Refusal.TheVariants.{Malformed, OutOfBounds, NotWhole, AbsentRow, OtherPartition, NotTimed, OtherServer, Falling}
-use Rattle.table.specs.declared.Refusal.TheVariants.{EqualPriorities, NoTask, LowInD2, QueueFull, NoJobRan, CountSpent, NoServer, RoomShort, Unsound, NoResponse}
+use Rattle.table.specs.declared.Refusal.TheVariants.{EqualPriorities, NoTask, LowInD2, QueueFull, NoJobRan, CountSpent, NoServer, RoomShort, Unsound}
 use Rattle.table.specs.Refusals.{number_of, standing_number}
 use Rattle.table.specs.Rows.{rows_of}
 use Rattle.table.specs.Rules.{table_keeps}
@@ -45,7 +45,6 @@ number_low CountSpent = omega arith
 number_low NoServer = omega arith
 number_low RoomShort = omega arith
 number_low Unsound = omega arith
-number_low NoResponse = omega arith
 
 pub reading_0 : (a : Reading) → reading_number a ≡ 0 → a ≡ Taken
 reading_0 Taken e = refl

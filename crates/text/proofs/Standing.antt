@@ -7,19 +7,18 @@ use mathlib.Core.List.{List, [], ◌∷◌, ◌++◌, append_assoc, append-nil, 
 use mathlib.Core.Logic.{inl, inr}
 use Prim.Native.Nat.{ℕ, suc, ◌+◌, ◌*◌, ◌/◌, ◌%◌, ◌≤◌, ◌<◌}
 use native.Mathlib.Omega.{arith}
-use native.Mathlib.Nat.{mul-le-mul_right, le_of_mul-le-mul_right, mul-mod_left, mul-div_cancel}
-use lib.Dec.{leb, ltb, eqb}
+use native.Mathlib.Nat.{mul-le-mul_right, le_of_mul-le-mul_right, mul-mod_left}
+use lib.Dec.{leb, ltb}
 use lib.ListN.{length, get_or, length-append, get_or-append}
 use lib.Seq.{get_or-append_seam}
-use borrow.Author.Tests.{eqb-true, eqb-false, leb-true, ltb-true, le-leb, lt-ltb}
+use borrow.Author.Tests.{eqb-true, leb-true, ltb-true, le-leb, lt-ltb}
 use Rattle.laws.specs.declared.Found.{Found}
 use Rattle.laws.specs.declared.Found.TheVariants.{At, Nothing}
 use Rattle.laws.specs.Choice.{unless◌say◌else◌, every, within}
 use Rattle.laws.specs.Search.{first_failed}
-use Rattle.laws.proofs.Choice.{clash, if_ind, and_right, every_at, within_low, within_high, is_within, le_or_lt}
+use Rattle.laws.proofs.Choice.{clash, and_right, every_at, within_low, within_high, is_within, le_or_lt}
 use Rattle.laws.proofs.RoundUp.{div_mono}
 use Rattle.laws.proofs.Search.{failed_none}
-use Rattle.units.specs.declared.Ticks.{Ticks}
 use Rattle.units.specs.declared.Micros.{Micros}
 use Rattle.table.specs.declared.Server.{Server}
 use Rattle.table.specs.declared.Task.{Task}
@@ -37,12 +36,12 @@ use Rattle.text.specs.declared.Line.{Line}
 use Rattle.text.specs.declared.Line.TheVariants.{OfTick, OfServer, OfTask, Malformed}
 use Rattle.table.specs.declared.Standing.{Standing}
 use Rattle.table.specs.declared.Standing.TheVariants.{Kept, Broken}
-use Rattle.text.specs.Standing.{is_nil, last_said, server_of, limits_of, task_of, placed, server_bounds, separation_bound, task_bounds, bounds, whole, server_whole, task_whole, wholes, fault, tell◌at◌or◌, standing, grown}
+use Rattle.text.specs.Standing.{is_nil, phase_said, server_of, limits_of, task_of, placed, server_bounds, task_bounds, bounds, whole, server_whole, wholes, fault, tell◌at◌or◌, standing, grown}
 use Rattle.text.specs.Line.{word_of, malformed_at}
-use Rattle.text.specs.Write.{last_back, server_back, task_back, server_lines, task_lines, lines_of}
+use Rattle.text.specs.Write.{server_back, task_back, server_lines, task_lines, lines_of}
 use Rattle.text.proofs.Lines.{Short, ShortLast, Writable}
-use Rattle.text.proofs.Ticks.{up_times, whole_div, last_said_lem, server_left_out, server_back_lem, task_rounded, task_back_lem, rounded}
-use Rattle.text.proofs.Bounds.{tick_within, server_within, within_server, separation_within, separation_high, task_within}
+use Rattle.text.proofs.Ticks.{whole_div, phase_said_lem, server_left_out, server_back_lem, rounded}
+use Rattle.text.proofs.Bounds.{tick_within, server_within, within_server, task_within}
 
 -- the tests of a line in their order: kept is kept of each
 pub unless_kept : (b : Bool) (why : Refusal) (field : ℕ) (r : Standing) → (unless b say Broken why field else r) ≡ Kept →
@@ -87,6 +86,16 @@ keeps_standing n a l k =
     )
     k.fits
 
+-- the bounds of a task are its room and table's own rule
+pub task_keeps_lem : (rows t : ℕ) (k : TaskLine) → every (task_bounds rows t k) ≡ true → every (task_keeps (task_of t k)) ≡ true
+unfolding task_bounds task_keeps every
+task_keeps_lem rows t k e = and_right (ltb rows 64) (every (task_keeps (task_of t k))) e
+
+pub task_bounded : (rows t : ℕ) (k : TaskLine) → rows < 64 → every (task_keeps (task_of t k)) ≡ true →
+    every (task_bounds rows t k) ≡ true
+unfolding task_bounds task_keeps every
+task_bounded rows t k l e = rw (lt-ltb rows 64 l) e
+
 -- bounds in microseconds, and the same in ticks
 period_ticks : (t u : ℕ) → 0 < t → u % t ≡ 0 → t ≤ u → u ≤ 1000000 * t → within 1 1000000 (u / t) ≡ true
 period_ticks t u h e l g =
@@ -109,48 +118,6 @@ phase_ticks t p u h d e l =
 phase_micros : (t x p : ℕ) → ltb x p ≡ true → x * t + t ≤ p * t
 phase_micros t x p e = omega (arith, mul-le-mul_right {m = suc x} {n = p} t (omega (arith, ltb-true x p e)))
 
--- a separation is at most 1,000,000 ticks in microseconds and in ticks
-separation_ticks : (t u : ℕ) → 0 < t → u ≤ 1000000 * t → leb (u / t) 1000000 ≡ true
-separation_ticks t u h l = rw (← mul-div_cancel 1000000 {n = t} h) (capacity_ticks t u (1000000 * t) h l)
-
-separation_micros : (t : ℕ) (x : Ticks) → leb x.0 1000000 ≡ true → separation_bound t (last_back t x) ≡ true
-separation_micros t x e =
-    if_ind (λ p. separation_bound t p ≡ true) (eqb x.0 0) (λ z. refl)
-    (λ z.
-    let low : 1 * t ≤ x.0 * t = mul-le-mul_right t (omega (arith, eqb-false x.0 0 z)) in
-    is_within t (1000000 * t) (x.0 * t) (omega arith) (mul-le-mul_right t (leb-true x.0 1000000 e)))
-
--- a task's line that is taken has a row that keeps the rules, and a row that keeps them has a line
--- that is taken
-pub task_keeps_lem : (rows t : ℕ) (k : TaskLine) → 0 < t → every (task_bounds rows t k) ≡ true →
-    every (task_keeps (task_of t k)) ≡ true
-unfolding task_bounds task_keeps every
-task_keeps_lem rows t k h e =
-    let b = every_at (task_bounds rows t k) e in
-    let l = separation_high t k.separation (separation_within t k.separation (b 8)) in
-    rw (b 3, b 5, b 6, b 7, separation_ticks t (last_said k.separation).0 h l)
-
-pub task_bounded : (rows t : ℕ) (k : Task) → 0 < t → rows < 64 → every (task_keeps k) ≡ true →
-    every (task_bounds rows t (task_back t k)) ≡ true
-unfolding task_bounds task_keeps every
-task_bounded rows t k h l e =
-    let b = every_at (task_keeps k) e in
-    rw (
-      lt-ltb rows 64 l,
-      up_times k.limit.n.0 t h,
-      up_times k.limit.d1.0 t h,
-      up_times k.limit.d2.0 t h,
-      b 0,
-      b 1,
-      b 2,
-      b 3,
-      separation_micros t k.separation (b 4),
-    )
-
-pub task_whole_lem : (t : ℕ) (k : Task) → every (task_whole t (task_back t k)) ≡ true
-unfolding task_whole every
-task_whole_lem t k = rw (last_said_lem t k.separation, mul-mod_left k.separation.0 t)
-
 -- a server's line that is taken has a row that keeps the rules
 pub server_keeps_lem : (rows t : ℕ) (s : ServerLine) → 0 < t → every (server_bounds rows t s) ≡ true →
     every (server_whole t s) ≡ true →
@@ -166,7 +133,7 @@ server_keeps_lem rows t s h b w =
       capacity_ticks t s.capacity.n.0 s.period.0 h p.n,
       capacity_ticks t s.capacity.d1.0 s.period.0 h p.d1,
       capacity_ticks t s.capacity.d2.0 s.period.0 h p.d2,
-      phase_ticks t (last_said s.phase).0 s.period.0 h (eqb-true ((last_said s.phase).0 % t) 0 (q 8))
+      phase_ticks t (phase_said s.phase).0 s.period.0 h (eqb-true ((phase_said s.phase).0 % t) 0 (q 8))
           (eqb-true (s.period.0 % t) 0 (q 4)) p.phase,
     )
 
@@ -188,7 +155,7 @@ server_bounded rows t s l e =
       n = capacity_micros t s.capacity.n.0 s.period.0 (p 3);
       d1 = capacity_micros t s.capacity.d1.0 s.period.0 (p 4);
       d2 = capacity_micros t s.capacity.d2.0 s.period.0 (p 5);
-      phase = rw (last_said_lem t s.phase) (phase_micros t s.phase.0 s.period.0 (p 6));
+      phase = rw (phase_said_lem t s.phase) (phase_micros t s.phase.0 s.period.0 (p 6));
     })
 
 pub server_whole_lem : (t : ℕ) (s : Server) → every (server_whole t (server_back t s)) ≡ true
@@ -199,7 +166,7 @@ server_whole_lem t s =
       mul-mod_left s.capacity.n.0 t,
       mul-mod_left s.capacity.d1.0 t,
       mul-mod_left s.capacity.d2.0 t,
-      last_said_lem t s.phase,
+      phase_said_lem t s.phase,
       mul-mod_left s.phase.0 t,
     )
 
@@ -278,14 +245,14 @@ task_line_lem n a x g k =
       server = g.server;
       task =
           each_more (λ y. task_stands a.servers y ≡ true) a.tasks (task_of t x) no_task g.task
-          (stands a.servers (task_of t x) (task_keeps_lem (length a.tasks) t x g.low k.bounded) k.fits);
+          (stands a.servers (task_of t x) (task_keeps_lem (length a.tasks) t x k.bounded) k.fits);
     }
 
 -- such a line has a text: its numbers are short
 pub tick_writable : (n : ℕ) (a : Rows) (t : Micros) → Keeps n a (OfTick t) → Writable (OfTick t)
 tick_writable n a t k = omega (arith, (tick_within a t k.bounded).1)
 
-last_short : (p : LastField) → Short (last_said p).0 → ShortLast p
+last_short : (p : LastField) → Short (phase_said p).0 → ShortLast p
 last_short Absent h = tt
 last_short (Given u) h = h
 
@@ -307,9 +274,8 @@ server_writable n a s g k =
 task_writable : (n : ℕ) (a : Rows) (x : TaskLine) → Good a → Keeps n a (OfTask x) → Writable (OfTask x)
 unfolding bounds fault
 task_writable n a x g k =
-    let t = a.tick.0 in
-    let r = rows_there a.servers x.home x.degraded (limits_of t x.limit) k.fits in
-    let w = task_within (length a.tasks) t x g.low k.bounded in (
+    let r = rows_there a.servers x.home x.degraded (limits_of a.tick.0 x.limit) k.fits in
+    let w = task_within (length a.tasks) a.tick.0 x g.low k.bounded in (
       omega (arith, g.servers_high, r.0),
       omega (arith, g.servers_high, r.1),
       omega (arith, w.priority_high),
@@ -318,7 +284,6 @@ task_writable n a x g k =
         omega (arith, g.high, w.d1_high),
         omega (arith, g.high, w.d2_high),
       ),
-      last_short x.separation (omega (arith, g.high, separation_high t x.separation w.separation)),
     )
 
 -- a malformed line stands nowhere
@@ -361,7 +326,7 @@ unfolding task_lines
 no_task_lines t ks e = rw e
 
 pub stepped : (n : ℕ) (a : Rows) (l : Line) → 1 < n → Good a → Keeps n a l → Stepped a l
-unfolding grown lines_of rounded bounds wholes
+unfolding grown lines_of rounded wholes
 stepped n a (OfTick t) h g k = absurd (no_tick_lem n a t h k)
 stepped n a (OfServer s) h g k =
     let t = a.tick.0 in
@@ -387,8 +352,7 @@ stepped n a (OfTask x) h g k =
       lines =
           rw (
             task_lines_more t a.tasks (task_of t x),
-            task_back_lem (length a.tasks) t x g.low k.bounded k.whole,
-            append_assoc (server_lines t a.servers) (task_lines t a.tasks) (OfTask (task_rounded t x) ∷ []),
+            append_assoc (server_lines t a.servers) (task_lines t a.tasks) (OfTask (task_back t (task_of t x)) ∷ []),
           );
     }
 stepped n a (Malformed word field) h g k = absurd (no_form n a word field k)

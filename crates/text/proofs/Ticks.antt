@@ -11,21 +11,19 @@ use lib.Dec.{eqb}
 use borrow.Author.Tests.{eqb-true, eqb-false, eq-eqb, ne_eqb}
 use Rattle.laws.specs.Choice.{if◌then◌else◌, every}
 use Rattle.laws.specs.RoundUp.{up}
-use Rattle.laws.proofs.Choice.{clash, every_at, within_low}
+use Rattle.laws.proofs.Choice.{clash, every_at}
 use Rattle.laws.proofs.RoundUp.{up_le, le_up}
 use Rattle.units.specs.declared.Ticks.{Ticks}
 use Rattle.units.specs.declared.Micros.{Micros}
-use Rattle.table.specs.declared.ByMode.{ByMode}
 use Rattle.table.specs.declared.Server.{Server}
 use Rattle.table.specs.declared.Task.{Task}
 use Rattle.text.specs.declared.LastField.{LastField}
 use Rattle.text.specs.declared.LastField.TheVariants.{Absent, Given}
 use Rattle.text.specs.declared.ServerLine.{ServerLine}
-use Rattle.text.specs.declared.TaskLine.{TaskLine}
 use Rattle.text.specs.declared.Line.{Line}
 use Rattle.text.specs.declared.Line.TheVariants.{OfTick, OfServer, OfTask, Malformed}
-use Rattle.text.specs.Standing.{in_ticks, last_said, server_of, rounded_up, limits_of, task_of, separation_bound, task_bounds, whole, server_whole, task_whole}
-use Rattle.text.specs.Write.{in_micros, times_back, last_back, server_back, task_back, task_times_whole, not_zero, phase_not_zero}
+use Rattle.text.specs.Standing.{in_ticks, phase_said, server_of, rounded_up, task_of, whole, server_whole}
+use Rattle.text.specs.Write.{in_micros, phase_back, server_back, task_back, task_times_whole, not_zero, phase_not_zero}
 
 -- numbers
 pub up_times : (n t : ℕ) → 0 < t → up (n * t) t ≡ n
@@ -62,32 +60,32 @@ zero_same u t e = go (eqb (u / t) 0) refl
         sym (eq-eqb u 0 (omega (arith, p, whole_div u t e)))
     go false q = sym (ne_eqb u 0 (λ z. eqb-false (u / t) 0 q (rw z (zero-div t))))
 
--- a last field: what is written of it says it
-pub last_said_lem : (t : ℕ) (x : Ticks) → last_said (last_back t x) ≡ in_micros t x
-last_said_lem t x = go (eqb x.0 0) refl
+-- a phase: what is written of it says it
+pub phase_said_lem : (t : ℕ) (x : Ticks) → phase_said (phase_back t x) ≡ in_micros t x
+phase_said_lem t x = go (eqb x.0 0) refl
   where
-    go : (b : Bool) → eqb x.0 0 ≡ b → last_said (if b then Absent else Given (in_micros t x)) ≡ in_micros t x
+    go : (b : Bool) → eqb x.0 0 ≡ b → phase_said (if b then Absent else Given (in_micros t x)) ≡ in_micros t x
     go true e = rw (eqb-true x.0 0 e, zero-mul t)
     go false e = refl
 
--- and what it says is written, but for a 0, which is left out
+-- and what it says is written, but for a phase 0, which is left out
 unfoldable pub left_out : LastField → LastField
 left_out Absent = Absent
 left_out (Given u) = if eqb u.0 0 then Absent else Given u
 
-pub said_left_out : (p : LastField) → last_said (left_out p) ≡ last_said p
+pub said_left_out : (p : LastField) → phase_said (left_out p) ≡ phase_said p
 unfolding left_out
 said_left_out Absent = refl
 said_left_out (Given u) = go (eqb u.0 0) refl
   where
-    go : (b : Bool) → eqb u.0 0 ≡ b → last_said (if b then Absent else Given u) ≡ u
+    go : (b : Bool) → eqb u.0 0 ≡ b → phase_said (if b then Absent else Given u) ≡ u
     go true e = rw (← eqb-true u.0 0 e)
     go false e = refl
 
-last_back_lem : (t : ℕ) (p : LastField) → whole t (last_said p) ≡ true → last_back t (in_ticks t (last_said p)) ≡ left_out p
+phase_back_lem : (t : ℕ) (p : LastField) → whole t (phase_said p) ≡ true → phase_back t (in_ticks t (phase_said p)) ≡ left_out p
 unfolding left_out
-last_back_lem t Absent e = rw (zero_same 0 t (eqb-true (0 % t) 0 e))
-last_back_lem t (Given u) e = rw (zero_same u.0 t (eqb-true (u.0 % t) 0 e), back t u e)
+phase_back_lem t Absent e = rw (zero_same 0 t (eqb-true (0 % t) 0 e))
+phase_back_lem t (Given u) e = rw (zero_same u.0 t (eqb-true (u.0 % t) 0 e), back t u e)
 
 not_zero_stays : (p : LastField) → not_zero p ≡ true → left_out p ≡ p
 unfolding left_out
@@ -115,17 +113,13 @@ server_there t h s =
       there t h s.capacity.n,
       there t h s.capacity.d1,
       there t h s.capacity.d2,
-      last_said_lem t s.phase,
+      phase_said_lem t s.phase,
       there t h s.phase,
     )
 
-limits_there : (t : ℕ) → 0 < t → (x : ByMode) → limits_of t (times_back t x) ≡ x
-limits_there t h x =
-    rw (rounded_there t h x.n, rounded_there t h x.d1, rounded_there t h x.d2)
-
 pub task_there : (t : ℕ) → 0 < t → (k : Task) → task_of t (task_back t k) ≡ k
 task_there t h k =
-    rw (limits_there t h k.limit, last_said_lem t k.separation, there t h k.separation)
+    rw (rounded_there t h k.limit.n, rounded_there t h k.limit.d1, rounded_there t h k.limit.d2)
 
 -- and a server's line from its row, since its times are whole ticks, without a phase 0
 abbrev pub server_left_out : ServerLine → ServerLine
@@ -149,45 +143,14 @@ server_back_lem t s e =
       back t s.capacity.n (w 5),
       back t s.capacity.d1 (w 6),
       back t s.capacity.d2 (w 7),
-      last_back_lem t s.phase (w 8),
-    )
-
--- and a task's line, with its limits rounded up to a tick, since a separation is whole ticks and
--- never 0
-abbrev pub task_rounded : ℕ → TaskLine → TaskLine
-task_rounded t k =
-    record {
-      home = k.home;
-      degraded = k.degraded;
-      priority = k.priority;
-      level = k.level;
-      limit = times_back t (limits_of t k.limit);
-      separation = k.separation;
-    }
-
-bound_not_zero : (t : ℕ) → 0 < t → (p : LastField) → separation_bound t p ≡ true → not_zero p ≡ true
-bound_not_zero t h Absent e = refl
-bound_not_zero t h (Given u) e =
-    let l = within_low t (1000000 * t) u.0 e in
-    let z : eqb u.0 0 ≡ false = ne_eqb u.0 0 (λ q. omega (arith, l, q)) in
-    rw z
-
-pub task_back_lem : (rows t : ℕ) (k : TaskLine) → 0 < t → every (task_bounds rows t k) ≡ true →
-    every (task_whole t k) ≡ true →
-    task_back t (task_of t k) ≡ task_rounded t k
-unfolding task_bounds task_whole
-task_back_lem rows t k h b w =
-    let z = bound_not_zero t h k.separation (every_at (task_bounds rows t k) b 8) in
-    rw (
-      last_back_lem t k.separation (every_at (task_whole t k) w 8),
-      not_zero_stays k.separation z,
+      phase_back_lem t s.phase (w 8),
     )
 
 -- a line with its task times rounded up to a tick, and without a phase 0
 unfoldable pub rounded : ℕ → Line → Line
 rounded t (OfTick u) = OfTick u
 rounded t (OfServer s) = OfServer (server_left_out s)
-rounded t (OfTask k) = OfTask (task_rounded t k)
+rounded t (OfTask k) = OfTask (task_back t (task_of t k))
 rounded t (Malformed word field) = Malformed word field
 
 time_stays : (t : ℕ) → 0 < t → (u : Micros) → whole t u ≡ true → in_micros t (rounded_up t u) ≡ u
@@ -210,7 +173,7 @@ unfolding rounded every
 stays_whole t (OfTick u) e = refl
 stays_whole t (OfServer s) e = refl
 stays_whole t (OfTask k) e =
-    let q : task_rounded t k ≡ k = cc in
+    let q : task_back t (task_of t k) ≡ k = cc in
     rw (
       time_whole t k.limit.n (ap (λ x. x.limit.n) q),
       time_whole t k.limit.d1 (ap (λ x. x.limit.d1) q),

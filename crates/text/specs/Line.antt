@@ -52,12 +52,11 @@ server_form =
     }
 
 -- "`task`: home server; degraded server; priority 1 to 255, greater first; level; limits for N, D1,
--- D2". 02, No. 8: "Give each task row, as a last field that may be absent, a least separation
--- between releases".
+-- D2"
 unfoldable pub task_form : Form
 task_form =
     record {
-      fields = a_number ∷ a_number ∷ a_number ∷ a_level ∷ a_number ∷ a_number ∷ a_number ∷ a_number ∷ [];
+      fields = a_number ∷ a_number ∷ a_number ∷ a_level ∷ a_number ∷ a_number ∷ a_number ∷ [];
       least = 7;
     }
 
@@ -108,7 +107,6 @@ task_said fs =
       priority = worth (field_at fs 3);
       level = level_of (field_at fs 4);
       limit = times_at fs;
-      separation = last_at fs 8;
     }
 
 -- the leading word, and of a line the one that it has
@@ -190,7 +188,7 @@ fields_of (OfTask k) =
     ∷ digits k.degraded
     ∷ digits k.priority
     ∷ level_word k.level
-    ∷ (times_fields k.limit ++ last_fields k.separation)
+    ∷ times_fields k.limit
 fields_of (Malformed word field) = []
 
 unfoldable pub write_line : Line → List ℕ

@@ -36,15 +36,14 @@ is_nil [] = true
 is_nil (x ∷ xs) = false
 
 -- From microseconds to ticks, in a table whose tick is t microseconds.
--- period and capacities: "all whole ticks"; 02, No. 7 and No. 8: so are a phase and a separation
+-- period and capacities: "all whole ticks"
 abbrev pub in_ticks : ℕ → Micros → Ticks
 in_ticks t u = record { 0 = u.0 / t }
 
--- 02, No. 7: "A row without the field has phase 0"; No. 8: the separation is "a last field that may
--- be absent", and 0 is none
-abbrev pub last_said : LastField → Micros
-last_said Absent = record { 0 = 0 }
-last_said (Given u) = u
+-- 02, No. 7: "A row without the field has phase 0"
+abbrev pub phase_said : LastField → Micros
+phase_said Absent = record { 0 = 0 }
+phase_said (Given u) = u
 
 abbrev pub server_of : ℕ → ServerLine → Server
 server_of t s =
@@ -54,7 +53,7 @@ server_of t s =
       priority = s.priority;
       period = in_ticks t s.period;
       capacity = record { n = in_ticks t s.capacity.n; d1 = in_ticks t s.capacity.d1; d2 = in_ticks t s.capacity.d2 };
-      phase = in_ticks t (last_said s.phase);
+      phase = in_ticks t (phase_said s.phase);
     }
 
 -- "limits for N, D1, D2, each rounded up to a tick"
@@ -72,7 +71,6 @@ task_of t k =
       priority = k.priority;
       level = k.level;
       limit = limits_of t k.limit;
-      separation = in_ticks t (last_said k.separation);
     }
 
 -- the page asks nothing of this field here
@@ -104,15 +102,8 @@ server_bounds rows t s =
     ∷ leb s.capacity.n.0 s.period.0
     ∷ leb s.capacity.d1.0 s.period.0
     ∷ leb s.capacity.d2.0 s.period.0
-    ∷ leb ((last_said s.phase).0 + t) s.period.0
+    ∷ leb ((phase_said s.phase).0 + t) s.period.0
     ∷ []
-
--- 02, No. 8: "a least separation between releases, in whole ticks, 1 to 1,000,000"; "in the text,
--- out of bounds is 2". It is compared in microseconds, as a period is: below one tick is out of
--- bounds.
-abbrev pub separation_bound : ℕ → LastField → Bool
-separation_bound t Absent = anything
-separation_bound t (Given u) = within t (1000000 * t) u.0
 
 -- "priority 1 to 255, greater first; level; limits for N, D1, D2, each rounded up to a tick, then 1
 -- to 100,000". Home and degraded server have no bounds: a row is there or absent.
@@ -126,7 +117,6 @@ task_bounds rows t k =
     ∷ limit_keeps (limits_of t k.limit).n.0
     ∷ limit_keeps (limits_of t k.limit).d1.0
     ∷ limit_keeps (limits_of t k.limit).d2.0
-    ∷ separation_bound t k.separation
     ∷ []
 
 unfoldable pub bounds : Rows → Line → List Bool
@@ -135,8 +125,7 @@ bounds a (OfServer s) = server_bounds (length a.servers) a.tick.0 s
 bounds a (OfTask k) = task_bounds (length a.tasks) a.tick.0 k
 bounds a (MalformedLine word field) = []
 
--- 3, "period or capacity not whole ticks"; 02, No. 7, of a phase: "not whole ticks is 3"; No. 8, of
--- a separation: "not whole ticks 3"
+-- 3, "period or capacity not whole ticks"; 02, No. 7, of a phase: "not whole ticks is 3"
 abbrev pub whole : ℕ → Micros → Bool
 whole t u = eqb (u.0 % t) 0
 
@@ -150,27 +139,13 @@ server_whole t s =
     ∷ whole t s.capacity.n
     ∷ whole t s.capacity.d1
     ∷ whole t s.capacity.d2
-    ∷ whole t (last_said s.phase)
-    ∷ []
-
--- limits are "each rounded up to a tick", so of a task's times only the separation must be whole
-unfoldable pub task_whole : ℕ → TaskLine → List Bool
-task_whole t k =
-    anything
-    ∷ anything
-    ∷ anything
-    ∷ anything
-    ∷ anything
-    ∷ anything
-    ∷ anything
-    ∷ anything
-    ∷ whole t (last_said k.separation)
+    ∷ whole t (phase_said s.phase)
     ∷ []
 
 unfoldable pub wholes : Rows → Line → List Bool
 wholes a (OfTick t) = []
 wholes a (OfServer s) = server_whole a.tick.0 s
-wholes a (OfTask k) = task_whole a.tick.0 k
+wholes a (OfTask k) = []
 wholes a (MalformedLine word field) = []
 
 -- 41 to 45, "absent server row, degraded server of another partition, degraded server not timed,

@@ -34,10 +34,9 @@ in_micros t x = record { 0 = x.0 * t }
 abbrev pub times_back : ℕ → ByMode → Times
 times_back t x = record { n = in_micros t x.n; d1 = in_micros t x.d1; d2 = in_micros t x.d2 }
 
--- 02, No. 7: at phase 0 "the writer then leaves the field out"; No. 8: a separation "may be
--- absent", and where there is none the field is left out too
-abbrev pub last_back : ℕ → Ticks → LastField
-last_back t x = if eqb x.0 0 then Absent else Given (in_micros t x)
+-- 02, No. 7: at phase 0 "the writer then leaves the field out"
+abbrev pub phase_back : ℕ → Ticks → LastField
+phase_back t x = if eqb x.0 0 then Absent else Given (in_micros t x)
 
 abbrev pub server_back : ℕ → Server → ServerLine
 server_back t s =
@@ -47,7 +46,7 @@ server_back t s =
       priority = s.priority;
       period = in_micros t s.period;
       capacity = times_back t s.capacity;
-      phase = last_back t s.phase;
+      phase = phase_back t s.phase;
     }
 
 abbrev pub task_back : ℕ → Task → TaskLine
@@ -58,7 +57,6 @@ task_back t k =
       priority = k.priority;
       level = k.level;
       limit = times_back t k.limit;
-      separation = last_back t k.separation;
     }
 
 unfoldable pub server_lines : ℕ → List Server → List Line
@@ -105,9 +103,7 @@ wrote t room =
     else unless leb (length (write (rows_of t))) (length room) say unwritten RoomShort room
     else written (write (rows_of t)) room
 
--- "Reading then writing gives the same text exactly when each task time was whole ticks." The task
--- times are the limits, which are rounded up. A separation is none of them: one that is not whole
--- ticks is refused by 3, so that one that is read is written as it was.
+-- "Reading then writing gives the same text exactly when each task time was whole ticks."
 abbrev pub task_times_whole : ℕ → Line → Bool
 task_times_whole t (OfTick u) = true
 task_times_whole t (OfServer s) = true

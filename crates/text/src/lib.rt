@@ -16,7 +16,7 @@ pub struct Times {
     pub d2: Micros,
 }
 
-// A last field that may be absent: a server's phase, a task's separation.
+// A last field that may be absent: a server's phase.
 #[derive(Drop)]
 pub enum LastField {
     Absent,
@@ -40,7 +40,6 @@ pub struct TaskLine {
     pub priority: u64,
     pub level: Level,
     pub limit: Times,
-    pub separation: LastField,
 }
 
 // The leading word of a line: which kind of line it begins, or none.

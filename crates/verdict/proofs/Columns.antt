@@ -3,13 +3,13 @@
 -- rounded. Assumes nothing.
 use mathlib.Core.Path.{◌≡◌, refl}
 use mathlib.Core.List.{List}
-use Prim.Native.Nat.{ℕ, ◌+◌, ◌*◌, ◌-◌, ◌≤◌, ◌<◌}
+use Prim.Native.Nat.{ℕ, zero, suc, ◌+◌, ◌*◌, ◌-◌, ◌≤◌, ◌<◌}
 use native.Mathlib.Omega.{arith}
 use native.Mathlib.Nat.{mul-le-mul_left, mul-le-mul_right, div-mul-le_self}
 use lib.ListN.{get_or}
 use Rattle.laws.specs.Rows.{sum_below}
 use Rattle.laws.specs.RoundUp.{up}
-use Rattle.laws.proofs.Rows.{sum_le, sum_most, sum_next}
+use Rattle.laws.proofs.Rows.{sum_le, sum_next}
 use Rattle.laws.proofs.RoundUp.{up_mono}
 use Rattle.verdict.specs.Inner.{interference_in, Bounded, Columns}
 
@@ -21,6 +21,11 @@ up_times_le a t c h l = omega (arith, mul-le-mul_left (up a t) l, div-mul-le_sel
 pub part_le : (q r t c l : ℕ) → q ≡ up (r + l) t → Bounded t c l → r ≤ 1000000 → q * c ≤ 3000000
 part_le q r t c l e b h =
     rw e (omega (arith, up_times_le (r + l) t c b.period_low b.capacity_high, b.period_high, b.late_high))
+
+sum_most : (f : ℕ → ℕ) (b n : ℕ) → ((k : ℕ) → k < n → f k ≤ b) → sum_below n f ≤ n * b
+unfolding sum_below
+sum_most f b zero h = omega arith
+sum_most f b (suc n) h = omega (arith, sum_most f b n (λ k l. h k (omega arith)), h n (omega arith))
 
 module _ (periods capacities late : List ℕ) where
   -- what server j asks of r ticks

@@ -4,15 +4,17 @@ use mathlib.Core.Path.{◌≡◌, refl, sym, ap, subst, ◌∙◌}
 use mathlib.Core.Bool.{Bool, true, false}
 use mathlib.Core.List.{List}
 use mathlib.Core.Logic.{◌⊎◌, inl, inr}
-use Prim.Native.Nat.{ℕ, ◌≤◌, ◌<◌}
+use Prim.Native.Nat.{ℕ, ◌+◌, ◌≤◌, ◌<◌}
 use native.Mathlib.Omega.{arith}
-use lib.ListN.{length, get_or, replicate}
+use lib.ListN.{length, get_or, set, replicate, length-set, length-replicate, get_or-replicate}
+use lib.Seq.{get_or-set_same, get_or-set_other}
+use borrow.Author.Count.{below_more}
 use Rattle.laws.specs.declared.Found.{Found}
 use Rattle.laws.specs.declared.Found.TheVariants.{At, Nothing}
 use Rattle.laws.proofs.Choice.{le_or_lt, clash, true_or_false}
 use Rattle.laws.proofs.Search.{hit, miss, is_least, found_passes, found_first, none_passes}
 use Rattle.laws.proofs.Search.{NoneFinds, FirstAt, First, first, nowhere, first_at, first_none, first_is}
-use Rattle.laws.proofs.Rows.{length_listed, listed_at, Written, all_written, same_everywhere}
+use Rattle.laws.proofs.Rows.{length_listed, listed_at, is_listed}
 use Rattle.table.specs.declared.Mode.{Mode}
 use Rattle.table.specs.declared.Mode.TheVariants.{N, D1, D2}
 use Rattle.table.specs.declared.Refusal.TheVariants.{NoServer, Unsound}
@@ -41,26 +43,57 @@ module _ (t : Table) where
   unfolding verdicts_of
   verdicts_at i d h = listed_at 32 (row_verdicts t) i d h
 
--- as a loop writes them, over what stands for an absent row
-abbrev pub RowsWritten : Table → ℕ → List RowVerdicts → Type 0
-RowsWritten t = Written 32 (row_verdicts t) (no_verdicts NoServer)
+-- As a loop writes them: those of the first i rows, and after them what stands for an absent row.
+pub record RowsWritten (t : Table) (i : ℕ) (all : List RowVerdicts) : Type 0 where
+  pub long : length all ≡ 32
+  pub rows : (k : ℕ) → k < i → get_or all k (no_verdicts NoServer) ≡ row_verdicts t k
+  pub absent : (k : ℕ) → i ≤ k → k < 32 → get_or all k (no_verdicts NoServer) ≡ no_verdicts NoServer
 
 module _ (t : Table) where
+  pub none_written : RowsWritten t 0 (replicate 32 (no_verdicts NoServer))
+  none_written =
+      record {
+        long = length-replicate 32 (no_verdicts NoServer);
+        rows = λ k h. absurd (omega arith);
+        absent = λ k h l. get_or-replicate 32 k (no_verdicts NoServer) (no_verdicts NoServer) l;
+      }
+
+  pub row_written : (i : ℕ) (all : List RowVerdicts) (v : RowVerdicts) → i < 32 → RowsWritten t i all →
+      v ≡ row_verdicts t i → RowsWritten t (i + 1) (set all i v)
+  row_written i all v h w e =
+      let d = no_verdicts NoServer in
+      let same : get_or (set all i v) i d ≡ row_verdicts t i = get_or-set_same all i v d (omega (arith, w.long)) ∙ e in
+      record {
+        long = length-set all i v ∙ w.long;
+        rows =
+            below_more (λ k. get_or (set all i v) k d ≡ row_verdicts t k) i
+            (λ k l. get_or-set_other all i k v d (λ q. omega arith) ∙ w.rows k l) same;
+        absent = λ k l m. get_or-set_other all i k v d (λ q. omega arith) ∙ w.absent k (omega arith) m;
+      }
+
   absent_row : (k : ℕ) → table_keeps t ≡ true → t.nservers ≤ k → no_verdicts NoServer ≡ row_verdicts t k
   absent_row k e h =
       rw (verdict_absent t N k e h, verdict_absent t D1 k e h, verdict_absent t D2 k e h)
 
-  pub verdicts_written : (all : List RowVerdicts) → table_keeps t ≡ true → RowsWritten t t.nservers all → all ≡ verdicts_of t
+  pub all_written : (all : List RowVerdicts) → table_keeps t ≡ true → RowsWritten t t.nservers all → all ≡ verdicts_of t
   unfolding verdicts_of
-  verdicts_written all e w =
-      all_written 32 (row_verdicts t) (no_verdicts NoServer) t.nservers all w (λ k l h. absent_row k e l)
+  all_written all e w =
+      is_listed 32 (row_verdicts t) (no_verdicts NoServer) all w.long (λ k h. row k h (le_or_lt t.nservers k))
+    where
+      row : (k : ℕ) → k < 32 → (t.nservers ≤ k) ⊎ (k < t.nservers) →
+          get_or all k (no_verdicts NoServer) ≡ row_verdicts t k
+      row k h (inl l) = w.absent k l h ∙ absent_row k e l
+      row k h (inr l) = w.rows k l
 
   -- a table that breaks the rules has 13 everywhere
   pub none_kept : table_keeps t ≡ false → replicate 32 (no_verdicts Unsound) ≡ verdicts_of t
   unfolding verdicts_of
   none_kept e =
-      same_everywhere 32 (row_verdicts t) (no_verdicts Unsound)
-      (λ k h. rw (verdict_unsound t N k e, verdict_unsound t D1 k e, verdict_unsound t D2 k e))
+      let d = no_verdicts Unsound in
+      is_listed 32 (row_verdicts t) d (replicate 32 d) (length-replicate 32 d)
+      (λ k h.
+      get_or-replicate 32 k d d h
+      ∙ rw (verdict_unsound t N k e, verdict_unsound t D1 k e, verdict_unsound t D2 k e))
 
 -- The least row that misses in a mode.
 miss_is : (v : Verdict) → is_miss v ≡ true → v ≡ Misses

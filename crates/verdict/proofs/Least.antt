@@ -1,6 +1,7 @@
 -- The climb to the response: what it stops at is the least number that meets the inequality, since
 -- the interference never falls. Assumes nothing.
-use mathlib.Core.Path.{◌≡◌, ◌∙◌}
+use mathlib.Core.Path.{◌≡◌, sym, ◌∙◌}
+use mathlib.Core.Bool.{Bool}
 use mathlib.Core.List.{List}
 use Prim.Native.Nat.{ℕ, ◌+◌, ◌≤◌, ◌<◌}
 use native.Mathlib.Omega.{arith}
@@ -8,7 +9,7 @@ use borrow.Author.Tests.{eq-eqb, ne_eqb}
 use Rattle.laws.specs.declared.Found.{Found}
 use Rattle.laws.specs.declared.Found.TheVariants.{At, Nothing}
 use Rattle.laws.specs.Search.{least}
-use Rattle.laws.proofs.Search.{least_same}
+use Rattle.laws.proofs.Search.{Searched, hit, miss, least_is, is_least}
 use Rattle.laws.proofs.Climb.{NonePasses, climb_next, climb_found, climb_none}
 use Rattle.table.specs.declared.Mode.{Mode}
 use Rattle.table.specs.declared.Table.{Table}
@@ -41,6 +42,14 @@ module _ (n : ℕ) (periods capacities late : List ℕ) (c : ℕ) where
       Nothing ≡ least (meets_in n periods capacities late c) 1 p
   unfolding meets_in
   found_none r p h none = climb_none (λ x. c + interference_in n periods capacities late x) 1 p r (omega arith) none
+
+-- two tests that say the same of each number find the same
+searched_same : (p q : ℕ → Bool) → ((x : ℕ) → p x ≡ q x) → (r n : ℕ) (a : Found) → Searched p r n a → Searched q r n a
+searched_same p q e r n a (hit x l u t z) = hit x l u (sym (e x) ∙ t) (λ y b c. sym (e y) ∙ z y b c)
+searched_same p q e r n a (miss z) = miss (λ y b c. sym (e y) ∙ z y b c)
+
+least_same : (p q : ℕ → Bool) → ((x : ℕ) → p x ≡ q x) → (r n : ℕ) → least p r n ≡ least q r n
+least_same p q e r n = is_least q r n (least p r n) (searched_same p q e r n (least p r n) (least_is p r n))
 
 module _ (t : Table) (m : Mode) (i : ℕ) where
   meets_same : (h : Higher) (c x : ℕ) → Delaying t m i h → c ≡ capacity_at t m i →

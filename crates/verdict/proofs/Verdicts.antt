@@ -135,15 +135,15 @@ way t m i = go (true_or_false (table_keeps t)) (le_or_lt t.nservers i)
     go (inl e) (inl h) = absent e h (verdict_absent t m i e h)
     go (inl e) (inr h) = served e h (verdict_told t m i e h)
 
-pub told_no : (f : Found) (x : Refusal) → told f ≡ No x → ⊥
+told_no : (f : Found) (x : Refusal) → told f ≡ No x → ⊥
 told_no (At r) x e = let z : ◌≡◌ {A = ℕ} 0 1 = cc in omega arith
 told_no Nothing x e = let z : ◌≡◌ {A = ℕ} 0 1 = cc in omega arith
 
-pub told_at_lem : (f : Found) (r : Ticks) → told f ≡ Response r → f ≡ At r.0
+told_at_lem : (f : Found) (r : Ticks) → told f ≡ Response r → f ≡ At r.0
 told_at_lem (At x) r e = let q : record { 0 = x } ≡ r = cc in ap (λ (y : Ticks). At y.0) q
 told_at_lem Nothing r e = let z : ◌≡◌ {A = ℕ} 0 1 = cc in absurd (omega arith)
 
-pub told_nothing : (f : Found) → told f ≡ Misses → f ≡ Nothing
+told_nothing : (f : Found) → told f ≡ Misses → f ≡ Nothing
 told_nothing (At x) e = let z : ◌≡◌ {A = ℕ} 0 1 = cc in absurd (omega arith)
 told_nothing Nothing e = refl
 

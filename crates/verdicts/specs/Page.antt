@@ -1,8 +1,8 @@
 -- What verdicts prints of a table that was taken: a line for each server row.
-use Rattle.std.specs.Prelude.{List, [], ◌∷◌, ℕ, get_or}
+use Rattle.std.specs.Prelude.{List, [], ◌∷◌, ◌++◌, ℕ, zero, suc, get_or}
 use Rattle.laws.specs.Quoted.{bytes}
 use Rattle.decimal.specs.Number.{digits}
-use Rattle.decimal.specs.Lines.{tab, join, closed, row_lines}
+use Rattle.decimal.specs.Lines.{tab, join, closed}
 use Rattle.table.specs.declared.Refusal.TheVariants.{NoServer}
 use Rattle.table.specs.declared.Table.{Table}
 use Rattle.verdict.specs.declared.Verdict.{Verdict}
@@ -20,9 +20,9 @@ verdict_word (No why) = bytes "no"
 unfoldable pub row_line : ℕ → RowVerdicts → List ℕ
 row_line i v = join tab (digits i ∷ verdict_word v.n ∷ verdict_word v.d1 ∷ verdict_word v.d2 ∷ [])
 
--- the line of a row of these verdicts
-abbrev pub line_in : List RowVerdicts → ℕ → List ℕ
-line_in vs i = row_line i (get_or vs i (no_verdicts NoServer))
+unfoldable pub row_lines : List RowVerdicts → ℕ → List (List ℕ)
+row_lines vs zero = []
+row_lines vs (suc i) = row_lines vs i ++ (row_line i (get_or vs i (no_verdicts NoServer)) ∷ [])
 
 abbrev pub page : Table → List ℕ
-page t = closed (row_lines (line_in (verdicts_of t)) t.nservers)
+page t = closed (row_lines (verdicts_of t) t.nservers)

@@ -10,7 +10,7 @@ ghost use Rattle.table.specs.Rules.{table_keeps};
 ghost use Rattle.text.specs.declared.Line.TheVariants.{OfServer, OfTask};
 ghost use Rattle.text.specs.Words.{kind_word, level_word};
 ghost use Rattle.text.specs.Line.{times_fields, last_fields, write_line};
-ghost use Rattle.text.specs.Write.{in_micros, times_back, last_back, server_back, task_back, server_lines, task_lines, write, wrote};
+ghost use Rattle.text.specs.Write.{in_micros, times_back, phase_back, server_back, task_back, server_lines, task_lines, write, wrote};
 
 use decimal::put::{put_all, put_byte, put_number};
 use table::{ByMode, Kind, Level, Refusal, Server, Table, Task};
@@ -25,10 +25,10 @@ fn in_micros(x: Ticks, tick: Micros) -> Micros
     Micros(x.0 as u64 * tick.0)
 }
 
-// At phase 0 "the writer then leaves the field out", and so it does where a task has no separation.
-fn last_back(x: Ticks, tick: Micros) -> LastField
+// At phase 0 "the writer then leaves the field out".
+fn phase_back(x: Ticks, tick: Micros) -> LastField
     requires { tick.0 ≤ 10000 }
-    ensures { result ≡ last_back tick.0 x }
+    ensures { result ≡ phase_back tick.0 x }
 {
     if x.0 == 0 {
         return LastField::Absent;
@@ -99,18 +99,6 @@ fn put_last(last: LastField, room: &mut [u8], at: usize) -> usize
     }
 }
 
-// The end of a row's line: a time for each mode, the last field where there is one, the line feed.
-fn put_rest(x: ByMode, last: Ticks, tick: Micros, room: &mut [u8], at: usize) -> usize
-    requires { tick.0 ≤ 10000 }
-    ensures { Put (closed (join tab (times_fields (times_back tick.0 x) ++ last_fields (last_back tick.0 last)) ∷ []))
-        room.old at room.new result }
-{
-    let said = last_back(last, tick);
-    let k = put_times(x, tick, room, at);
-    let k = put_last(said, room, k);
-    put_byte(b'\n', room, k)
-}
-
 fn put_server(s: Server, tick: Micros, room: &mut [u8], at: usize) -> usize
     requires { tick.0 ≤ 10000 }
     ensures { Put (closed (write_line (OfServer (server_back tick.0 s)) ∷ []))
@@ -119,13 +107,15 @@ fn put_server(s: Server, tick: Micros, room: &mut [u8], at: usize) -> usize
     let kind = s.kind;
     let period = s.period;
     let capacity = s.capacity;
-    let phase = s.phase;
+    let last = phase_back(s.phase, tick);
     let k = put_all(b"server\t", room, at);
     let k = put_field(s.partition as u64, room, k);
     let k = put_kind(kind, room, k);
     let k = put_field(s.priority as u64, room, k);
     let k = put_time(period, tick, room, k);
-    put_rest(capacity, phase, tick, room, k)
+    let k = put_times(capacity, tick, room, k);
+    let k = put_last(last, room, k);
+    put_byte(b'\n', room, k)
 }
 
 fn put_task(x: Task, tick: Micros, room: &mut [u8], at: usize) -> usize
@@ -135,13 +125,13 @@ fn put_task(x: Task, tick: Micros, room: &mut [u8], at: usize) -> usize
 {
     let level = x.level;
     let limit = x.limit;
-    let separation = x.separation;
     let k = put_all(b"task\t", room, at);
     let k = put_field(x.home as u64, room, k);
     let k = put_field(x.degraded as u64, room, k);
     let k = put_field(x.priority as u64, room, k);
     let k = put_level(level, room, k);
-    put_rest(limit, separation, tick, room, k)
+    let k = put_times(limit, tick, room, k);
+    put_byte(b'\n', room, k)
 }
 
 fn put_servers(t: Table, room: &mut [u8], at: usize) -> usize

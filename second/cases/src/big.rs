@@ -58,7 +58,6 @@ fn table(servers: usize, tasks: usize) -> Table {
             priority: (255 - row) as u64,
             level,
             time: limits.map(|limit| limit * TICK),
-            separation: None,
         });
     }
     Table { tick: TICK, servers: server_rows, tasks: task_rows }

@@ -12,7 +12,7 @@ pub const MAX_WAITING: u64 = 16;
 pub const MAX_BYTE: u64 = 255;
 pub const MAX_FIELD: u64 = u32::MAX as u64;
 /// The greatest task, row or room that both programs take.
-pub const ELEVEN_DIGITS: u64 = 99_999_999_999;
+const ELEVEN_DIGITS: u64 = 99_999_999_999;
 pub const LO: u64 = 0;
 pub const D2: usize = 2;
 /// Every mode with every level of which a job may wait in it. Those of which a
@@ -30,8 +30,7 @@ const LEVELS_IN_MODES: [(usize, &str); 10] = [
     (D2, "HI"),
 ];
 
-/// A task row, its limits in ticks. The separation may be absent, and may be 0 and
-/// there all the same.
+/// A task row, its limits in ticks.
 #[derive(Clone)]
 pub struct Task {
     pub home: u64,
@@ -39,7 +38,6 @@ pub struct Task {
     pub priority: u64,
     pub level: u64,
     pub limit: [u64; 3],
-    pub separation: Option<u64>,
 }
 
 #[derive(Clone, Copy)]
@@ -63,7 +61,6 @@ pub enum Operation {
     Write(u64),
     Fits,
     FitsState,
-    Response(u64),
 }
 
 impl Operation {
@@ -76,7 +73,6 @@ impl Operation {
             Operation::Write(_) => "write",
             Operation::Fits => "fits",
             Operation::FitsState => "fits_state",
-            Operation::Response(_) => "response",
         }
     }
 
@@ -274,9 +270,6 @@ impl Block {
         for server in &mut used.servers {
             server.phase = server.phase.filter(|&phase| phase > 0);
         }
-        for task in &mut used.tasks {
-            task.separation = task.separation.filter(|&separation| separation > 0);
-        }
         let kind = |server: &Server| if server.timed { "timed" } else { "event" };
         let level = |task: &Task| LEVELS[task.level as usize];
         line(&[&"tick", &self.tick]) + &used.row_lines(self.tick, kind, level)
@@ -302,11 +295,8 @@ impl Block {
         for row in &self.tasks {
             let [n, d1, d2] = row.limit.map(|ticks| ticks * tick);
             let level = level(row);
-            let separation = row.separation.map(|separation| separation * tick);
-            let mut fields: Vec<&dyn Display> =
-                vec![&"task", &row.home, &row.degraded, &row.priority, &level, &n, &d1, &d2];
-            fields.extend(separation.as_ref().map(|separation| separation as &dyn Display));
-            text += &line(&fields);
+            text +=
+                &line(&[&"task", &row.home, &row.degraded, &row.priority, &level, &n, &d1, &d2]);
         }
         text
     }
@@ -367,10 +357,9 @@ pub fn operation_line(operation: Operation) -> String {
     match operation {
         Operation::Fresh | Operation::Fits | Operation::FitsState => line(&[&word]),
         Operation::Verdict(row, mode) => line(&[&word, &row, &mode]),
-        Operation::Release(number)
-        | Operation::Tick(number)
-        | Operation::Write(number)
-        | Operation::Response(number) => line(&[&word, &number]),
+        Operation::Release(number) | Operation::Tick(number) | Operation::Write(number) => {
+            line(&[&word, &number])
+        }
     }
 }
 
@@ -395,7 +384,6 @@ fn in_ticks(task: &table::Task, tick: u64) -> Task {
             _ => 2,
         },
         limit: task.time.map(|time| time.div_ceil(tick)),
-        separation: task.separation,
     }
 }
 
@@ -484,6 +472,5 @@ fn any_task(random: &mut Random) -> Task {
         priority: random.within(0, MAX_BYTE),
         level: random.within(0, 2),
         limit: [0; 3].map(|_| any(random)),
-        separation: None,
     }
 }

@@ -11,8 +11,6 @@ use crate::frame::FrameCase;
 use crate::phase;
 use crate::phase_damage;
 use crate::random::Random;
-use crate::separation;
-use crate::separation_damage;
 use crate::table::{self, text_of, Table};
 
 pub struct Case {
@@ -32,12 +30,6 @@ const FRAME_SEED: u64 = 0x6672_616d;
 /// So many of a hundred small tables give way to tables damaged at a phase.
 const DAMAGED_PHASES: u64 = 60;
 
-/// So many of a hundred small tables that are left give way to tables made for
-/// responses, and so many of a hundred otherwise damaged ones to tables damaged at a
-/// separation.
-const RESPONDING: u64 = 75;
-const DAMAGED_SEPARATIONS: u64 = 32;
-
 /// The cases from this number on are long nights.
 pub const LONG: u64 = 1_000_000_000;
 /// The first of so many long nights has several hundred kilobytes of events, by
@@ -48,39 +40,9 @@ impl Case {
     /// The case of a seed with a number, always the same one.
     pub fn make(seed: u64, number: u64) -> Case {
         let frame = frame_case(seed, number);
-        let mut case = Case { frame, ..Case::without_separations(seed, number) };
-        case.give_separations(&mut Random::for_case(seed ^ separation::SEED, number));
-        case
-    }
-
-    fn without_separations(seed: u64, number: u64) -> Case {
-        let mut case = Case::without_phases(seed, number);
+        let mut case = Case { frame, ..Case::without_phases(seed, number) };
         case.give_phases(&mut Random::for_case(seed ^ phase::SEED, number));
         case
-    }
-
-    /// Gives the tasks of the table separations, or the case a table that is made for
-    /// responses in place of a small one, or one damaged at a separation in place of
-    /// one damaged elsewhere. The rest of the case stays.
-    fn give_separations(&mut self, random: &mut Random) {
-        // The length of these matters, and those damaged at a phase stay.
-        let name = &self.name;
-        let long = name.starts_with("2-text-of-");
-        let at_phase = name.contains("-server-8-") || name.contains("-phase");
-        if name == "good-small" && random.chance(RESPONDING) {
-            let (table, name) = separation::responding(random);
-            let night = events::sure_ticks(&self.events) as u64;
-            self.table = phase::give(&text_of(&table.lines()), night, random);
-            self.name = format!("good-{name}");
-        } else if !long
-            && !at_phase
-            && !name.starts_with("good-")
-            && random.chance(DAMAGED_SEPARATIONS)
-        {
-            (self.table, self.name) = separation_damage::damaged(random);
-        } else if !long {
-            self.table = separation::give(&self.table, random);
-        }
     }
 
     /// Gives the servers of the table phases, or the case a table that is damaged
@@ -220,8 +182,7 @@ mod tests {
     fn phases_change_nothing_else() {
         let (mut given, mut replaced) = (0, 0);
         for number in (0..1000).chain(LONG..LONG + 10) {
-            let plain = Case::without_phases(1, number);
-            let case = Case::without_separations(1, number);
+            let (plain, case) = (Case::without_phases(1, number), Case::make(1, number));
             assert_eq!(plain.events, case.events);
             if plain.name != case.name {
                 replaced += 1;
@@ -241,34 +202,6 @@ mod tests {
             given += u64::from(some);
         }
         assert!(given > 250 && replaced > 80, "{given} {replaced}");
-    }
-
-    #[test]
-    fn separations_change_nothing_else() {
-        let (mut given, mut responding, mut damaged) = (0, 0, 0);
-        for number in (0..1000).chain(LONG..LONG + 10) {
-            let (plain, case) = (Case::without_separations(1, number), Case::make(1, number));
-            assert_eq!(plain.events, case.events);
-            if plain.name != case.name {
-                responding += u64::from(case.name.starts_with("good-responds"));
-                damaged += u64::from(!case.name.starts_with("good-"));
-                continue;
-            }
-            let mut plain_lines = plain.table.split(|&byte| byte == b'\n');
-            let mut some = false;
-            for line in case.table.split(|&byte| byte == b'\n') {
-                let own = plain_lines.next().unwrap_or_default();
-                if line != own {
-                    some = true;
-                    assert!(own.starts_with(b"task\t"));
-                    assert_eq!(own.split(|&byte| byte == b'\t').count(), 8);
-                    assert!(line.starts_with(&[own, b"\t"].concat()), "{}", case.name);
-                }
-            }
-            assert_eq!(plain_lines.next(), None);
-            given += u64::from(some);
-        }
-        assert!(given > 200 && responding > 30 && damaged > 60, "{given} {responding} {damaged}");
     }
 
     #[test]

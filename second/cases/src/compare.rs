@@ -13,12 +13,11 @@ use crate::coverage::Coverage;
 use crate::fit::Page;
 
 /// The programs; `frame` has files of its own, and runs where a case has them.
-const PROGRAMS: [&str; 7] =
-    ["night", "report", "verdicts", "fits", "responses", "rewrite", "frame"];
+const PROGRAMS: [&str; 6] = ["night", "report", "verdicts", "fits", "rewrite", "frame"];
 
 pub struct Options {
     /// The folder with the executables `night`, `report`, `verdicts`, `fits`,
-    /// `responses`, `rewrite` and `frame`.
+    /// `rewrite` and `frame`.
     pub first: PathBuf,
     /// The `second` binary.
     pub second: PathBuf,
@@ -106,8 +105,8 @@ fn work(
         let case = Case::make(options.seed, number);
         let runs = run_all(options, &case, folder)?;
 
-        let verdicts = output_of(&runs, "verdicts");
-        let page = verdicts.and_then(|verdicts| Page::of(&case.table, verdicts));
+        let verdicts = output_of(&runs, "verdicts").unwrap_or_default();
+        let page = Page::of(&case.table, verdicts);
         let coverage = seen_in(&case, &runs, page.as_ref());
 
         let differing: Vec<(&str, String)> =
@@ -160,7 +159,6 @@ fn seen_in(case: &Case, runs: &[Run], page: Option<&Page>) -> Coverage {
             ("report", _) => coverage.page(&case.table, &case.events, output),
             ("verdicts", _) => coverage.verdicts(output),
             ("fits", _) => coverage.fits(&case.table, page),
-            ("responses", _) => coverage.responses(&case.table, page, output),
             ("rewrite", _) => coverage.rewrite(&case.table, output),
             (_, Some(frame)) => coverage.frame(frame, output),
             _ => {}

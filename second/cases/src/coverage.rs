@@ -9,7 +9,6 @@ use crate::frame::FrameCase;
 use crate::frame_seen;
 use crate::judged::{self, Judged, LEVELS, MODES};
 use crate::phase_seen;
-use crate::separation_seen;
 
 /// The counts that must not be 0, beside those of step 1 and of tables that fit or
 /// miss.
@@ -42,15 +41,14 @@ const WANTED: [&str; 24] = [
 
 /// The refusals of tables that must be told, by number, field and kind of line.
 /// A field 0 is told apart by its causes instead, as [`cause_of_1`] has them.
-const FIELDS: [(&str, &str, &[usize]); 13] = [
+const FIELDS: [(&str, &str, &[usize]); 12] = [
     ("1", "tick", &[1]),
     ("1", "server", &[1, 2, 3, 4, 5, 6, 7, 8]),
-    ("1", "task", &[1, 2, 3, 4, 5, 6, 7, 8]),
+    ("1", "task", &[1, 2, 3, 4, 5, 6, 7]),
     ("2", "tick", &[1]),
     ("2", "server", &[1, 3, 4, 5, 6, 7, 8]),
-    ("2", "task", &[3, 5, 6, 7, 8]),
+    ("2", "task", &[3, 5, 6, 7]),
     ("3", "server", &[4, 5, 6, 7, 8]),
-    ("3", "task", &[8]),
     ("41", "task", &[1, 2]),
     ("42", "task", &[2]),
     ("43", "task", &[2]),
@@ -264,7 +262,7 @@ impl Coverage {
         for what in made(name) {
             self.count(&format!("made: {what}"));
         }
-        for what in phase_seen::made(name).into_iter().chain(separation_seen::made(name)) {
+        for what in phase_seen::made(name) {
             self.count(&what);
         }
     }
@@ -305,7 +303,6 @@ impl Coverage {
         }
         self.count("table taken");
         phase_seen::see(table, output, |what| self.count(what));
-        separation_seen::see_night(table, output, |what| self.count(what));
     }
 
     /// Counts a refusal of a text by its number, line and field or second line. The
@@ -498,15 +495,7 @@ impl Coverage {
         for name in page.names() {
             self.count(&name);
         }
-        let fits = page.told().is_none();
-        phase_seen::see_fits(table, fits, |what| self.count(what));
-        separation_seen::see_fits(table, fits, |what| self.count(what));
-    }
-
-    /// Counts the responses of a table, by its page of verdicts.
-    pub fn responses(&mut self, table: &[u8], page: Option<&Page>, output: &[u8]) {
-        let Some(page) = page else { return };
-        separation_seen::see(table, page, output, |what| self.count(what));
+        phase_seen::see_fits(table, page.told().is_none(), |what| self.count(what));
     }
 
     /// Counts a table written back, by whether it is the text that was read.
@@ -517,7 +506,6 @@ impl Coverage {
             self.count("rewritten otherwise");
         }
         phase_seen::see_rewritten(table, output, |what| self.count(what));
-        separation_seen::see_rewritten(table, output, |what| self.count(what));
     }
 
     /// Prints all counts; gives whether none of the wanted is 0. What stands at
@@ -538,8 +526,6 @@ impl Coverage {
             [&CAUSES[..], &MADE[..], &seen[..], &phase_seen::WANTED[..], &frames[..]].concat();
         wanted.extend(others.into_iter().map(String::from));
         wanted.extend(phase_seen::all_made());
-        wanted.extend(separation_seen::WANTED.map(String::from));
-        wanted.extend(separation_seen::all_made());
         if long {
             let seams = READ.counts.iter().chain(&WRITTEN.counts).chain(&BATCH.counts[..3]);
             wanted.extend(LONG_PAGES.iter().chain(seams).map(|what| what.to_string()));
@@ -721,7 +707,6 @@ mod tests {
     use super::{made, Coverage, FRAME, FRAME_MADE, MADE, TABLE};
     use crate::case::Case;
     use crate::phase_seen;
-    use crate::separation_seen;
 
     #[test]
     fn the_default_cases_make_every_pair_of_faults() {
@@ -734,7 +719,7 @@ mod tests {
             }
         }
         let made = MADE.iter().chain(&FRAME_MADE).map(|what| what.to_string());
-        for what in made.chain(phase_seen::all_made()).chain(separation_seen::all_made()) {
+        for what in made.chain(phase_seen::all_made()) {
             assert!(coverage.counts.contains_key(&what), "{what}");
         }
     }

@@ -5,7 +5,7 @@
 //! what is wrong. What a program must answer is left to the programs.
 
 use crate::random::Random;
-use crate::table::{self, text_of, Line, Table, MAX_LIMIT, MAX_PERIOD, MAX_SEPARATION, MAX_TICK};
+use crate::table::{self, text_of, Line, Table, MAX_LIMIT, MAX_PERIOD, MAX_TICK};
 
 /// The most bytes a table text may have.
 pub const MAX_TEXT: usize = 16_384;
@@ -47,8 +47,7 @@ impl Place {
         }
     }
 
-    /// The fields that a fault of the number can be after, but for the phase and the
-    /// separation.
+    /// The fields that a fault of the number can be after, but for the phase.
     pub fn fields_for(self, number: u8) -> &'static [usize] {
         match (self, number) {
             (Place::Tick, 1) => &[0, 0, 1],
@@ -269,7 +268,6 @@ impl Draft {
                 self.set(place, 3, random.pick(&[0, 256, wrapped + priority, ELEVEN_DIGITS]));
                 "priority"
             }
-            (Place::Task(row), 8) => self.separation_beyond(place, row, random),
             (Place::Task(_), _) if random.chance(33) => {
                 self.set(place, field, 0);
                 "time-0"
@@ -331,49 +329,8 @@ impl Draft {
         "phase-part"
     }
 
-    /// 2: a separation below one tick or above the greatest. The tick is 2 or more.
-    fn separation_beyond(&mut self, place: Place, row: usize, random: &mut Random) -> &'static str {
-        let tick = self.table.tick;
-        let longest = MAX_SEPARATION * tick;
-        let own = self.table.tasks[row].separation.unwrap_or(1) * tick;
-        let part = random.within(1, tick - 1);
-        let (separation, how) = match random.below(10) {
-            0 | 1 => (0, "separation-0"),
-            2 | 3 => (random.pick(&[1, part, tick - 1]), "separation-below-a-tick"),
-            4 | 5 => (longest + 1, "separation-above-by-1"),
-            6 => (longest + tick - 1, "separation-above-by-a-part"),
-            7 => (longest + tick, "separation-above-by-a-tick"),
-            8 => {
-                let round = random.pick(&[1 << 32, 1 << 35]) + own;
-                (round.max(longest + 2), "separation-round-32-bits")
-            }
-            _ => (ELEVEN_DIGITS, "separation-11-digits"),
-        };
-        self.set(place, 8, separation);
-        how
-    }
-
-    /// 3: a separation that is not whole ticks, from one tick to the greatest.
-    fn separation_part(&mut self, place: Place, random: &mut Random) -> &'static str {
-        let tick = self.table.tick;
-        let any_part = random.within(1, tick - 1);
-        let part = random.pick(&[1, any_part, tick - 1]);
-        let any_ticks = random.within(1, 40);
-        let (ticks, how) = match random.below(3) {
-            0 => (1, "separation-part-of-the-second-tick"),
-            1 => (MAX_SEPARATION - 1, "separation-part-of-the-last-tick"),
-            _ => (any_ticks, "separation-part"),
-        };
-        self.set(place, 8, ticks * tick + part);
-        how
-    }
-
-    /// 3: a period, capacity, phase or separation that is not whole ticks. The tick is 2
-    /// or more.
+    /// 3: a period, capacity or phase that is not whole ticks. The tick is 2 or more.
     fn not_whole(&mut self, place: Place, field: usize, random: &mut Random) -> &'static str {
-        if let (Place::Task(_), 8) = (place, field) {
-            return self.separation_part(place, random);
-        }
         let Place::Server(row) = place else { return "nowhere" };
         let tick = self.table.tick;
         let server = self.table.servers[row].clone();
@@ -559,11 +516,9 @@ impl Draft {
 /// 1 as 0: the line loses its leading word or has another count of fields,
 /// one field being kept.
 pub fn malform_line(line: &mut Line, keep: Option<usize>, random: &mut Random) -> &'static str {
-    let of_frame = line.len() < 1 + 7;
     let how = malform_once(line, keep, random);
-    // A server or task line may have 7 fields or 8, but for those of frame tables.
-    let word = line.first().map_or(&b""[..], |word| word);
-    if word == b"server" || (word == b"task" && !of_frame) {
+    // A server line may have 7 fields or 8.
+    if line.first().is_some_and(|word| word == b"server") {
         if line.len() == 1 + 8 {
             line.insert(8, b"0".to_vec());
         } else if line.len() == 1 + 7 {

@@ -126,8 +126,7 @@ impl Page {
         names
     }
 
-    /// Whether the row misses in the mode.
-    pub fn misses(&self, mode: usize, row: usize) -> bool {
+    fn misses(&self, mode: usize, row: usize) -> bool {
         self.rows[row].verdict[mode].is_none()
     }
 

@@ -1,5 +1,4 @@
-//! `cases compare`, `cases states`, `cases make`, `cases big` and `cases slow`: see
-//! USAGE.
+//! `cases compare`, `cases states`, `cases make` and `cases big`: see USAGE.
 
 mod big;
 mod block;
@@ -19,13 +18,7 @@ mod phase_block;
 mod phase_damage;
 mod phase_seen;
 mod random;
-mod separation;
-mod separation_block;
-mod separation_damage;
-mod separation_seen;
-mod slow;
 mod states;
-mod supply;
 mod table;
 mod unsound;
 
@@ -46,9 +39,8 @@ const USAGE: &str = "usage:
   cases make --seed S --number K --out DIR
   cases big --lines N --servers A --tasks B [--seed S] --out DIR
   cases big frame --lines N --tasks B [--seed S] --out DIR
-  cases slow --out FILE
-FIRST is a folder with executables night, report, verdicts, fits, responses, rewrite
-and frame, and for states one states; SECOND is the binary second. Without --seed and --count:
+FIRST is a folder with executables night, report, verdicts, fits, rewrite and frame,
+and for states one states; SECOND is the binary second. Without --seed and --count:
 seed 1, 2000 cases or blocks. L long nights follow the N cases, their numbers K
 from 1000000000 on, one in 20 of them of 80000 to 120000 lines or some more, the
 others of up to 20000; without --long none does. With --only one program is run, and
@@ -142,13 +134,6 @@ fn choose(arguments: Vec<String>) -> Result<bool, String> {
                 events: big::events(lines, tasks, &mut Random::new(seed)),
             };
             write_to(&out, |folder| frame.write_to(folder))
-        }
-        ["slow"] => {
-            let out = arguments.path("--out")?;
-            arguments.finish()?;
-            fs::write(&out, slow::table_text())
-                .map_err(|error| format!("cannot write {}: {error}", out.display()))?;
-            Ok(true)
         }
         _ => Err(USAGE.to_string()),
     }

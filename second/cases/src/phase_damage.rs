@@ -93,11 +93,11 @@ fn fields_more(random: &mut Random) -> (Vec<u8>, String) {
     (text_of(&draft.lines), format!("1-server-0-{how}"))
 }
 
-/// A task line with two more fields, as if it had a phase beside a separation.
+/// A task line with an eighth field.
 fn task_with_phase(random: &mut Random) -> (Vec<u8>, String) {
     let (mut draft, _) = draft(random);
     let place = Place::Task(random.below(draft.table.tasks.len()));
-    draft.line(place).extend([b"0".to_vec(), b"0".to_vec()]);
+    draft.line(place).push(b"0".to_vec());
     (text_of(&draft.lines), "1-task-0-phase".to_string())
 }
 

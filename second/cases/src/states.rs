@@ -13,8 +13,6 @@ use crate::judged::{self, Judged, LEVELS, MODES};
 use crate::phase;
 use crate::phase_block;
 use crate::random::Random;
-use crate::separation;
-use crate::separation_block;
 use crate::table;
 use crate::unsound;
 
@@ -31,12 +29,9 @@ const FRAME_EVERY: u64 = 5;
 /// One of so many blocks is about phases, which is the sixth of them.
 const PHASE_EVERY: u64 = 10;
 
-/// One of so many blocks is about separations, which is the fourth of them.
-const SEPARATION_EVERY: u64 = 5;
-
 /// The counts that must not be 0, beside those of step 1, those of tables that fit
-/// or miss, those of phases and of separations, and those for each clause broken.
-const WANTED: [&str; 50] = [
+/// or miss, those of phases, and those for each clause broken.
+const WANTED: [&str; 45] = [
     "fresh taken",
     "release taken",
     "tick taken",
@@ -62,11 +57,6 @@ const WANTED: [&str; 50] = [
     "fits_state yes",
     "fits_state no",
     "fits_state no 13",
-    "response told",
-    "response misses",
-    "response no 6",
-    "response no 13",
-    "response no 14",
     "fits_state, miss told in a lesser mode than the state's",
     "fits_state, miss told in the state's mode",
     "fits_state, miss told in a greater mode than the state's",
@@ -170,11 +160,7 @@ fn make(seed: u64, number: u64) -> Made {
     }
     // Phases are drawn apart, so that a block is otherwise what it was.
     let phases = &mut Random::for_case(seed ^ phase::SEED, number);
-    // So are separations.
-    let separations = &mut Random::for_case(seed ^ separation::SEED, number);
-    let mut block = if number % SEPARATION_EVERY == 3 {
-        separation_block::in_turn((number / SEPARATION_EVERY) as usize, separations)
-    } else if number % PHASE_EVERY == 5 {
+    let mut block = if number % PHASE_EVERY == 5 {
         phase_block::in_turn((number / PHASE_EVERY) as usize, phases)
     } else if number % IN_TURN_EVERY == IN_TURN_EVERY - 1 {
         unsound::in_turn((number / IN_TURN_EVERY) as usize, random)
@@ -183,7 +169,6 @@ fn make(seed: u64, number: u64) -> Made {
     };
     block.pad(random);
     phase_block::give(&mut block, phases);
-    separation_block::give(&mut block, separations);
     let text = block.text(random);
     Made { number, block: Asked::Table(block), text, page: None }
 }
@@ -265,7 +250,6 @@ fn compare_answers(seed: u64, made: &[Made], first: &[u8], second: &[u8], totals
             Asked::Table(block) => {
                 totals.see(block, other);
                 totals.see_phases(block, other);
-                totals.see_separations(block, other);
                 totals.see_page(block, page.as_ref());
             }
             Asked::Frame(block) => totals.see_frame(block, other),
@@ -440,9 +424,6 @@ impl Totals {
         } else if let Some(numbers) = numbers_of(line, b"verdict") {
             let is_met = numbers.first() == Some(&1);
             self.count(if is_met { "verdict response" } else { "verdict misses" });
-        } else if let Some(numbers) = numbers_of(line, b"response") {
-            let is_told = numbers.first() == Some(&1);
-            self.count(if is_told { "response told" } else { "response misses" });
         } else if let Some(numbers) = numbers_of(line, b"fits") {
             let word = if numbers.first() == Some(&1) { "yes" } else { "no" };
             self.count(&format!("{asked} {word}"));
@@ -467,15 +448,6 @@ impl Totals {
     /// Counts what is to be seen of phases.
     fn see_phases(&mut self, block: &Block, answer: Option<&[u8]>) {
         for name in with_budgets(answer, |answer| phase_block::names(block, answer)) {
-            self.count(&name);
-        }
-    }
-
-    /// Counts what is to be seen of separations.
-    fn see_separations(&mut self, block: &Block, answer: Option<&[u8]>) {
-        let line = first_line(answer.unwrap_or_default());
-        let (no, response) = (numbers_of(line, b"no"), numbers_of(line, b"response"));
-        for name in separation_block::names(block, no.as_deref(), response.as_deref()) {
             self.count(&name);
         }
     }
@@ -549,7 +521,6 @@ impl Totals {
         wanted.extend(unsound::names().map(|name| format!("fits_state, {}", broken(name))));
         wanted.extend(frame_block::broken_names());
         wanted.extend(phase_block::wanted());
-        wanted.extend(separation_block::wanted());
         let mut complete = true;
         for what in &wanted {
             let count = self.seen.get(what).copied().unwrap_or(0);

@@ -5,7 +5,6 @@ use crate::random::Random;
 pub const MAX_TICK: u64 = 10_000;
 pub const MAX_PERIOD: u64 = 1_000_000;
 pub const MAX_LIMIT: u64 = 100_000;
-pub const MAX_SEPARATION: u64 = 1_000_000;
 pub const MAX_PRIORITY: u64 = 255;
 pub const MAX_SERVERS: usize = 32;
 pub const MAX_TASKS: usize = 64;
@@ -22,8 +21,7 @@ pub struct Server {
     pub phase: Option<u64>,
 }
 
-/// A task row. The times are in microseconds, as they stand in the text; the
-/// separation, which may be absent, is in ticks.
+/// A task row. The times are in microseconds, as they stand in the text.
 #[derive(Clone)]
 pub struct Task {
     pub home: usize,
@@ -31,7 +29,6 @@ pub struct Task {
     pub priority: u64,
     pub level: &'static str,
     pub time: [u64; 3],
-    pub separation: Option<u64>,
 }
 
 #[derive(Clone)]
@@ -66,7 +63,7 @@ impl Table {
         }
         for task in &self.tasks {
             let [n, d1, d2] = task.time;
-            let mut line = line_of(&[
+            lines.push(line_of(&[
                 &"task",
                 &task.home,
                 &task.degraded,
@@ -75,9 +72,7 @@ impl Table {
                 &n,
                 &d1,
                 &d2,
-            ]);
-            line.extend(task.separation.map(|separation| number(separation * self.tick)));
-            lines.push(line);
+            ]));
         }
         lines
     }
@@ -338,7 +333,6 @@ fn draw(shape: &Shape, random: &mut Random) -> Table {
             // Only a HI job takes the mode to D2.
             level: random.pick(&["LO", "LO", "MI", "MI", "HI", "HI", "HI"]),
             time: draw_times(shape.longest_limit, tick, random),
-            separation: None,
         });
     }
     Table { tick, servers, tasks }

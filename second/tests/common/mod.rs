@@ -95,7 +95,6 @@ pub fn random_table(random: &mut Random) -> Table {
             level: [Level::Lo, Level::Lo, Level::Mi, Level::Hi, Level::Hi]
                 [random.within(0, 4) as usize],
             limit: [n, d1, d2],
-            separation: 0,
         });
     }
     let table = Table { tick: random.within(1, 1000), servers, tasks };

@@ -221,7 +221,7 @@ add_t c = record { fits = omega (arith, (server_room c.before.before.before).roo
 
 task_row_requires : tie.Need-task-row-requires invariant_loop decreases_loop
 task_row_requires c κs =
-    let g = task_room c.before.before in (g.tick, g.bounded, g.home, g.degraded)
+    let g = task_room c.before.before in (g.tick, g.keeps, g.home, g.degraded)
 
 mul_t46 : tie.Need-overflow-mul-t46 invariant_loop decreases_loop
 mul_t46 c = record { fits = omega (arith, (task_room c.before.before.before).room) }

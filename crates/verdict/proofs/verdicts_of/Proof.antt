@@ -6,12 +6,9 @@ use Prim.Native.Nat.{◌-◌, ◌≤◌}
 use native.Mathlib.Omega.{arith}
 use borrow.Author.Tests.{not-true, not-false}
 use borrow.Author.Rules.{rules}
-use Rattle.table.specs.declared.Refusal.TheVariants.{NoServer}
 use Rattle.table.specs.Rules.{table_keeps}
 use Rattle.table.proofs.Rules.{few_servers}
-use Rattle.laws.proofs.Rows.{none_written, row_written}
-use Rattle.verdict.specs.Fits.{row_verdicts, no_verdicts}
-use Rattle.verdict.proofs.Fitting.{RowsWritten, verdicts_written, none_kept}
+use Rattle.verdict.proofs.Fitting.{RowsWritten, none_written, row_written, all_written, none_kept}
 use Rattle.verdict.proofs.verdicts_of.Statement.{statement}
 use Rattle.verdict.proofs.verdicts_of.Tie as tie
 
@@ -35,11 +32,8 @@ returns c =
     (none_kept d.before.before.args.t (sym d.before.table-keeps.ensures ∙ not-true _ d.if1.true))
 
 loop_holds : tie.Need-loop-init invariant_loop decreases_loop
-loop_holds c = (
-  omega arith,
-  rw c.refused2.ensures
-      (none_written 32 (row_verdicts c.before.before.before.args.t) (no_verdicts NoServer)),
-)
+loop_holds c =
+    (omega arith, rw c.refused2.ensures (none_written c.before.before.before.args.t))
 
 row_verdicts_requires : tie.Need-row-verdicts-requires invariant_loop decreases_loop
 row_verdicts_requires c κs = (sound c.before.before.before, omega arith)
@@ -55,7 +49,7 @@ loop_again c =
     let l = c.before.before in
     let e = l.before.before in (
       omega arith,
-      row_written 32 (row_verdicts e.before.before.args.t) (no_verdicts NoServer) l.loop.row l.loop.all c.row-verdicts.result
+      row_written e.before.before.args.t l.loop.row l.loop.all c.row-verdicts.result
           (omega (arith, few e, c.before.loop-test.true)) l.loop.invariant.1 c.row-verdicts.ensures,
     )
 
@@ -65,7 +59,7 @@ returns_2 c =
     let e = c.before.before.before in
     let t = e.before.before.args.t in
     let n : l.row ≡ t.nservers = omega arith in
-    verdicts_written t l.all (sound e) (rw n at l.invariant.1)
+    all_written t l.all (sound e) (rw n at l.invariant.1)
 
 pub verdicts_of_spec : {M : Type 1} → statement M
 verdicts_of_spec =

@@ -4,17 +4,17 @@ use mathlib.Core.Path.{◌≡◌}
 use Prim.Native.Nat.{◌-◌, ◌≤◌}
 use native.Mathlib.Omega.{arith}
 use borrow.Author.Rules.{rules}
-use Rattle.decimal.specs.Lines.{closed, row_lines}
+use Rattle.decimal.specs.Lines.{closed}
 use Rattle.decimal.specs.Room.{Put}
-use Rattle.decimal.proofs.Room.{put_length, rows_none}
+use Rattle.decimal.proofs.Room.{put_length}
 use Rattle.table.proofs.Rules.{few_servers}
-use Rattle.verdicts.specs.Page.{line_in}
-use Rattle.verdicts.proofs.Page.{row_next, same_row}
+use Rattle.verdicts.specs.Page.{row_lines}
+use Rattle.verdicts.proofs.Page.{rows_next, rows_none, same_row}
 use Rattle.verdicts.proofs.put_page.Statement.{statement}
 use Rattle.verdicts.proofs.put_page.Tie as tie
 
 abbrev invariant_loop : tie.invariant-loop
-invariant_loop room₀ all n k₀ row₀ room k row = (row ≤ n) × Put (closed (row_lines (line_in all) row)) room₀ 0 room k
+invariant_loop room₀ all n k₀ row₀ room k row = (row ≤ n) × Put (closed (row_lines all row)) room₀ 0 room k
 
 abbrev decreases_loop : tie.decreases-loop
 decreases_loop room₀ all n k₀ row₀ room k row = n - row
@@ -23,7 +23,7 @@ few : (c : tie.Start invariant_loop decreases_loop) → c.args.t.nservers ≤ 32
 few c = few_servers c.args.t c.requires
 
 loop_holds : tie.Need-loop-init invariant_loop decreases_loop
-loop_holds c = (omega arith, rows_none (line_in c.verdicts-of.result) c.before.before.args.room.now 0)
+loop_holds c = (omega arith, rows_none c.verdicts-of.result c.before.before.args.room.now 0)
 
 mul_put_row : tie.Need-overflow-mul-put-row invariant_loop decreases_loop
 mul_put_row c = omega (arith, few c.before.before.before.before)
@@ -48,14 +48,14 @@ loop_again c =
     let b = v.before.before in
     let row = same_row b.args.t l.loop.row _ b.requires i.loop-test.true in (
       omega arith,
-      row_next v.verdicts-of.result l.loop.row _ (rw v.verdicts-of.ensures row)
+      rows_next v.verdicts-of.result l.loop.row _ (rw v.verdicts-of.ensures row)
           l.loop.invariant.1 c.before.before.put-row.ensures,
     )
 
 same_length : tie.Need-same-length invariant_loop decreases_loop
 same_length c =
     let l = c.before.loop in
-    put_length (closed (row_lines (line_in c.before.before.verdicts-of.result) l.row)) l.invariant.1
+    put_length (closed (row_lines c.before.before.verdicts-of.result l.row)) l.invariant.1
 
 returns : tie.Need-returns invariant_loop decreases_loop
 returns c =

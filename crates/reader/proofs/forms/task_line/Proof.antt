@@ -21,17 +21,16 @@ returns c =
 returns_2 : tie.Need-returns-2
 unfolding task_form line_by
 returns_2 c =
-    let k = c.before in
-    let e = k.before.before in
+    let e = c.before.before in
     let r = e.before.before in
     let a = r.before.before.before.args in
     lined task_form a.text.now a.from r.read-fields.result r.read-fields.ensures _ _
-    (task_read a.text.now a.from r.read-fields.result k.level-at.result c.last-at.result
-    k.level-at.ensures c.last-at.ensures r.read-fields.ensures e.enum_told.given.1)
+    (task_read a.text.now a.from r.read-fields.result c.level-at.result c.level-at.ensures
+    r.read-fields.ensures e.enum_told.given.1)
 
 pub task_line_spec : {M : Type 1} → statement M
 task_line_spec =
     tie.close
     (tie.spec (λ c. refl) (search rules) (search rules) returns (search rules) (search rules)
-    (λ c κs. tt) (search rules) (λ c κs. tt) (search rules) (search rules) (search rules)
-    (search rules) (search rules) (search rules) returns_2)
+    (λ c κs. tt) (search rules) (search rules) (search rules) (search rules) (search rules)
+    (search rules) returns_2)

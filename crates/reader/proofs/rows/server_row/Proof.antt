@@ -24,7 +24,7 @@ in_ticks_requires_4 c κs =
 in_ticks_requires_5 : tie.Need-in-ticks-requires-5
 in_ticks_requires_5 c κs =
     let start = c.before.before.before.before.before.before in
-    (start.requires.0, rw c.last-said.ensures (holds start).phase)
+    (start.requires.0, rw c.phase-said.ensures (holds start).phase)
 
 cast_t14 : tie.Need-overflow-cast-t14
 cast_t14 c =
@@ -46,7 +46,7 @@ returns c =
       p.before.in-ticks3.ensures,
       p.in-ticks4.ensures,
       l.in-ticks5.ensures,
-      l.before.last-said.ensures,
+      l.before.phase-said.ensures,
     )
 
 pub server_row_spec : {M : Type 1} → statement M

@@ -18,7 +18,7 @@ returns c =
       p.is-within2.ensures,
       t.is-within3.ensures,
       l.leaves-a-tick.ensures,
-      l.before.last-said.ensures,
+      l.before.phase-said.ensures,
     )
 
 pub server_bounds_spec : {M : Type 1} → statement M

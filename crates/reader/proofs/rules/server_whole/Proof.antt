@@ -10,7 +10,7 @@ returns : tie.Need-returns
 unfolding server_whole
 returns c =
     let p = c.before.before.before.before.before.before.before.before.before.before in
-    c.first-failed.ensures ∙ rw p.last-said.ensures
+    c.first-failed.ensures ∙ rw p.phase-said.ensures
 
 pub server_whole_spec : {M : Type 1} → statement M
 server_whole_spec =

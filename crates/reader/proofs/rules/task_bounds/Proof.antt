@@ -10,8 +10,7 @@ use Rattle.reader.proofs.rules.task_bounds.Tie as tie
 returns : tie.Need-returns
 unfolding task_bounds
 returns c =
-    let s = c.before.before in
-    let z = s.before in
+    let z = c.before.before in
     let y = z.before in
     let x = y.before in
     let p = x.before.before.before in
@@ -23,7 +22,6 @@ returns c =
       x.is-within2.ensures,
       y.is-within3.ensures,
       z.is-within4.ensures,
-      s.separation-bound.ensures,
       limit_exactly a.tick.0 a.k.limit.n.0 h,
       limit_exactly a.tick.0 a.k.limit.d1.0 h,
       limit_exactly a.tick.0 a.k.limit.d2.0 h,
@@ -32,5 +30,5 @@ returns c =
 pub task_bounds_spec : {M : Type 1} → statement M
 task_bounds_spec =
     tie.close
-    (tie.spec (λ c κs. tt) (search rules) (λ c κs. tt) (λ c κs. tt) (λ c κs. tt)
-    (λ c κs. search rules) (λ c. refl) (λ c κs. tt) returns)
+    (tie.spec (λ c κs. tt) (search rules) (λ c κs. tt) (λ c κs. tt) (λ c κs. tt) (λ c. refl)
+    (λ c κs. tt) returns)
