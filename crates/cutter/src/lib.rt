@@ -2,6 +2,8 @@
 // in a lent room as plain numbers (run::LINE_VALUES). The line that is not closed yet is held, so
 // that the cutting of the file into pieces does not show. (01, One night in full.)
 
+#![tactic(auto)]
+
 ghost use Rattle.std.specs.Prelude.{◌≡◌, true, [], ◌++◌, ◌+◌, ◌≤◌, length, get_or};
 ghost use Rattle.std.proofs.lemmas.List.Edits.{sets};
 ghost use Rattle.bytes.specs.Bytes.{index_of, slice};

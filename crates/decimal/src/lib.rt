@@ -1,6 +1,8 @@
 // Decimal numbers and words in text. (01, Tables.) Which bytes are a number, and which number, is
 // in specs/Number.antt; how text is cut into lines and lines into fields is in specs/Lines.antt.
 
+#![tactic(auto)]
+
 pub mod put;
 
 ghost use Rattle.std.specs.Prelude.{◌≡◌, ◌+◌, ◌≤◌, min, length};
@@ -19,28 +21,28 @@ pub const LINE_FEED: u8 = 10;
 const LONGEST_NUMBER: usize = 11;
 
 // What some bytes say, read as a number.
-#[derive(Drop)]
+#[derive(Clone, Copy)]
 pub enum Number {
     Value(u64),
     Bad,
 }
 
 // Digits in a row: what they are worth, and the place after them.
-#[derive(Drop)]
+#[derive(Clone, Copy)]
 struct Digits {
     worth: u64,
     end: usize,
 }
 
 // Where a field ends, and whether a tab stands there: then another field follows.
-#[derive(Drop)]
+#[derive(Clone, Copy)]
 pub struct End {
     pub at: usize,
     pub more: bool,
 }
 
 // A field, read as a number.
-#[derive(Drop)]
+#[derive(Clone, Copy)]
 pub struct Field {
     pub number: Number,
     pub end: End,

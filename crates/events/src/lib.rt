@@ -1,6 +1,8 @@
 // Events, and what is answered to them: the same for every box, whatever it holds. (01, What one tick
 // does; One night in full.)
 
+#![tactic(auto)]
+
 ghost use Rattle.std.specs.Prelude.{◌≡◌, ◌+◌, ◌≤◌, length};
 ghost use Rattle.std.proofs.Math.Seq.{paste};
 ghost use Rattle.events.specs.Values.{line_said, told_of, turn_values, left_values, told_values, told_put};
@@ -9,7 +11,7 @@ use table::{Mode, Refusal};
 use units::Ticks;
 
 // What a taken tick says.
-#[derive(Drop)]
+#[derive(Clone, Copy)]
 pub enum Turn {
     Run { server: usize, task: usize },
     Empty { server: usize },
@@ -17,7 +19,7 @@ pub enum Turn {
 }
 
 // The job that left, by its task, and how.
-#[derive(Drop)]
+#[derive(Clone, Copy)]
 pub enum Left {
     Nobody,
     Done(usize),
@@ -26,7 +28,7 @@ pub enum Left {
 
 // What goes with a taken tick: its number, the mode that step 5 found, and how many jobs step 2
 // discarded.
-#[derive(Drop)]
+#[derive(Clone, Copy)]
 pub struct TickAnswer {
     pub tick: Ticks,
     pub mode: Mode,
@@ -35,21 +37,21 @@ pub struct TickAnswer {
     pub discarded: u32,
 }
 
-#[derive(Drop)]
+#[derive(Clone, Copy)]
 pub enum Event {
     Release(usize),
     Tick(bool),
 }
 
 // What is answered to a start.
-#[derive(Drop)]
+#[derive(Clone, Copy)]
 pub enum Starting {
     Started,
     Refused(Refusal),
 }
 
 // What is answered to an event.
-#[derive(Drop)]
+#[derive(Clone, Copy)]
 pub enum Answer {
     Released(usize),
     Ticked(TickAnswer),
@@ -57,14 +59,14 @@ pub enum Answer {
 }
 
 // What a line of an event file says.
-#[derive(Drop)]
+#[derive(Clone, Copy)]
 pub enum EventLine {
     Of(Event),
     Another,
 }
 
 // What an answer tells: the paper's number for no, or the answer itself.
-#[derive(Drop)]
+#[derive(Clone, Copy)]
 pub enum Told {
     No(u64),
     Released(usize),
@@ -92,7 +94,7 @@ pub const TOLD_TASK: usize = 7;
 pub const TOLD_DISCARDED: usize = 8;
 
 // Whether many event lines were taken, or why none of them was.
-#[derive(Drop)]
+#[derive(Clone, Copy)]
 pub enum Taking {
     Taken,
     Refused(Refusal),

@@ -13,14 +13,14 @@ use text::{LONGEST_TEXT, Reading};
 pub const ROOM: usize = LONGEST_TEXT + 1;
 
 // What became of a table file: the reader's answer, or that it could not be read.
-#[derive(Drop)]
+#[derive(Clone, Copy)]
 pub enum Case {
     Read(Reading),
     Unread,
 }
 
 // That, and the table; where there is none, the one that stands beside every refusal.
-#[derive(Drop)]
+#[derive(Clone, Copy)]
 pub struct Given {
     pub case: Case,
     pub table: Table,

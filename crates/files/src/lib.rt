@@ -3,6 +3,8 @@
 // decided by functions that call nothing of it, each an equation (specs/Answers.antt); the others
 // only call, and hand on.
 
+#![tactic(auto)]
+
 pub mod given;
 pub mod pieces;
 
@@ -20,7 +22,7 @@ pub const TURNS: u64 = u64::MAX;
 
 // How a read or a write ended: it may go on, also where it was interrupted before it moved a byte;
 // there is no more; or it failed.
-#[derive(Drop)]
+#[derive(Clone, Copy)]
 pub enum How {
     On,
     End,
@@ -28,7 +30,7 @@ pub enum How {
 }
 
 // How many bytes were read or written, and how that ended.
-#[derive(Drop)]
+#[derive(Clone, Copy)]
 pub struct Taken {
     pub len: usize,
     pub how: How,

@@ -2,6 +2,8 @@
 // row of the least miss; a refused table as its one line. The answer's line is made by `line_of`,
 // which neither reads nor writes (specs/Line.antt).
 
+#![tactic(auto)]
+
 ghost use Rattle.std.specs.Prelude.{◌≡◌, ◌≤◌, length, take};
 ghost use Rattle.decimal.specs.Room.{Put};
 ghost use Rattle.verdict.specs.declared.Fits.TheVariants.{Miss, No};

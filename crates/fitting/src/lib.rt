@@ -1,6 +1,8 @@
 // Whether the table of a run that is handed in fits. (02, No. 5: "A table or state refused by 13 is
 // refused here too.")
 
+#![tactic(auto)]
+
 ghost use Rattle.std.specs.Prelude.{◌≡◌};
 ghost use Rattle.fitting.specs.Fits.{run_fits};
 

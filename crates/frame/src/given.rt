@@ -10,7 +10,7 @@ use frametable::FrameTable;
 
 // What became of a table file, and the table; where there is none, the one that stands beside every
 // refusal.
-#[derive(Drop)]
+#[derive(Clone, Copy)]
 pub struct FrameGiven {
     pub case: Case,
     pub table: FrameTable,

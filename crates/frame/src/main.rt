@@ -4,6 +4,8 @@
 // neither reads nor writes (specs/Pieces.antt); the loop around it only reads, calls it and writes.
 // (crates/night is the same for a run.)
 
+#![tactic(auto)]
+
 mod given;
 
 ghost use Rattle.std.specs.Prelude.{◌≡◌};
@@ -20,7 +22,7 @@ use text::Reading;
 
 // A night so far: the run, the line that is held, how many bytes were made for the writer last, and
 // whether it goes on.
-#[derive(Drop)]
+#[derive(Clone, Copy)]
 struct Night {
     run: FrameRun,
     held: Held,

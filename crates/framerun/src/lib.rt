@@ -1,6 +1,8 @@
 // The run of a frame box: a table with its state, and what is answered to a start and to events. (02,
 // No. 6: "Tasks, releases, end marks and queues stay as in 01, in mode N only".)
 
+#![tactic(auto)]
+
 use events::{Answer, Starting, Taking};
 use frametable::FrameTable;
 use queues::Last;
@@ -9,7 +11,7 @@ use units::Ticks;
 
 // The counts of a run: the tasks' queues (crate queues), the last-run job, and how many ticks were
 // taken and releases accepted. There is no mode, and no server's budget.
-#[derive(Drop)]
+#[derive(Clone, Copy)]
 pub struct FrameState {
     pub waiting: [u8; TASKS],
     pub runs: [u32; TASKS],
@@ -19,26 +21,26 @@ pub struct FrameState {
 }
 
 // A state with its table.
-#[derive(Drop)]
+#[derive(Clone, Copy)]
 pub struct FrameRun {
     pub table: FrameTable,
     pub state: FrameState,
 }
 
-#[derive(Drop)]
+#[derive(Clone, Copy)]
 pub struct FrameBegun {
     pub answer: Starting,
     pub run: FrameRun,
 }
 
-#[derive(Drop)]
+#[derive(Clone, Copy)]
 pub struct FrameAnswered {
     pub answer: Answer,
     pub run: FrameRun,
 }
 
 // What is handed back for many event lines: the run after them.
-#[derive(Drop)]
+#[derive(Clone, Copy)]
 pub struct FrameMany {
     pub answer: Taking,
     pub run: FrameRun,

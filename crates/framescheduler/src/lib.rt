@@ -2,6 +2,8 @@
 // state, any task number may be handed in; what is refused takes no tick and comes back as it was.
 // Soundness (13) is decided here, once; behind this door stand the steps on a sound state (steps.rt).
 
+#![tactic(auto)]
+
 mod sound;
 mod steps;
 

@@ -26,7 +26,7 @@ use table::{Mode, Refusal, TASKS};
 use units::Ticks;
 
 // A run without its table and its queues.
-#[derive(Drop)]
+#[derive(Clone, Copy)]
 pub struct Head {
     pub last: Last,
     pub ticks: Ticks,
@@ -34,14 +34,14 @@ pub struct Head {
 }
 
 // What is answered to an event, and the head after it.
-#[derive(Drop)]
+#[derive(Clone, Copy)]
 pub struct Step {
     pub answer: Answer,
     pub head: Head,
 }
 
 // What is told to a line, and the head after it.
-#[derive(Drop)]
+#[derive(Clone, Copy)]
 pub struct Reply {
     pub told: Told,
     pub head: Head,

@@ -1,6 +1,8 @@
 // The table of a frame box: of each task its partition, its priority and its one limit. (02, No.
 // 6.) Which slots a partition has is in crate slots; there is no server and no mode here.
 
+#![tactic(auto)]
+
 ghost use Rattle.std.specs.Prelude.{◌≡◌, take, ◌≤◌, min};
 ghost use Rattle.laws.specs.Choice.{every};
 ghost use Rattle.frametable.specs.Rows.{no_frame_table};
@@ -12,7 +14,7 @@ use text::{Reading, Word};
 use units::{Micros, Ticks};
 
 // A task's row: "partition (0 measuring, 1 alarm sending, 2 panel), priority and one limit".
-#[derive(Drop)]
+#[derive(Clone, Copy)]
 pub struct FrameTask {
     pub partition: u8,
     pub priority: u8,
@@ -20,7 +22,7 @@ pub struct FrameTask {
 }
 
 // The rows in use are the first ntasks.
-#[derive(Drop)]
+#[derive(Clone, Copy)]
 pub struct FrameTable {
     pub tick: Micros,
     pub ntasks: usize,
@@ -28,7 +30,7 @@ pub struct FrameTable {
 }
 
 // What a task's line says, in microseconds: "partition .., priority and one limit".
-#[derive(Drop)]
+#[derive(Clone, Copy)]
 pub struct FrameTaskLine {
     pub partition: u64,
     pub priority: u64,
@@ -38,7 +40,7 @@ pub struct FrameTaskLine {
 // What a line says, nothing of it judged but its form: a malformed one has its leading word and the
 // first field that is wrong, from 1, or 0 for a word that no line here has or a wrong count of
 // fields.
-#[derive(Drop)]
+#[derive(Clone, Copy)]
 pub enum FrameLine {
     OfTick(Micros),
     OfTask(FrameTaskLine),
@@ -47,7 +49,7 @@ pub enum FrameLine {
 
 // The table stands beside the answer. Where the text is refused it is one without rows,
 // noFrameTable.
-#[derive(Drop)]
+#[derive(Clone, Copy)]
 pub struct FrameRead {
     pub answer: Reading,
     pub table: FrameTable,

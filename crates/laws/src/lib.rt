@@ -1,12 +1,14 @@
 // What the other crates' definitions and proofs share. The definitions are in specs/, their laws in
 // proofs/.
 
+#![tactic(auto)]
+
 ghost use Rattle.std.specs.Prelude.{◌≡◌};
 ghost use Rattle.laws.specs.Choice.{every, within, larger};
 ghost use Rattle.laws.specs.Search.{first_failed};
 
 // A number that was looked for: a row, a response, or a field.
-#[derive(Drop)]
+#[derive(Clone, Copy)]
 pub enum Found {
     At(usize),
     Nothing,

@@ -2,6 +2,8 @@
 // stands in crates cutter, bytes to event lines, and printer, what is told to them to bytes. Here is
 // only how many lines are taken at once, the same whatever box they are told to.
 
+#![tactic(auto)]
+
 ghost use Rattle.std.specs.Prelude.{◌≡◌, min};
 ghost use Rattle.lines.specs.Serving.{lines_at_once};
 
@@ -12,7 +14,7 @@ pub const LONGEST_EVENT: usize = 13;
 
 // The line of an event file that is not closed yet: its first len bytes, or too long for an event
 // line where len is above LONGEST_EVENT.
-#[derive(Drop)]
+#[derive(Clone, Copy)]
 pub struct Held {
     pub bytes: [u8; LONGEST_EVENT],
     pub len: usize,
@@ -20,7 +22,7 @@ pub struct Held {
 
 // What is handed back for a piece: the line that is not closed yet after it, how many of its bytes
 // were taken, and how many lines they closed. (specs/Cutting.antt.)
-#[derive(Drop)]
+#[derive(Clone, Copy)]
 pub struct Cut {
     pub answer: Taking,
     pub held: Held,
@@ -33,7 +35,7 @@ pub const LONGEST_ANSWER: usize = 140;
 
 // What is handed back for printed answers: how many lines they are, and how many bytes of the lent
 // room. (specs/Print.antt.)
-#[derive(Drop)]
+#[derive(Clone, Copy)]
 pub struct Printed {
     pub answer: Taking,
     pub many: usize,

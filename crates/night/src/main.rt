@@ -4,6 +4,8 @@
 // writes (specs/Pieces.antt); the loop around it only reads, calls it and writes. (crates/frame is
 // the same for a frame box.)
 
+#![tactic(auto)]
+
 ghost use Rattle.std.specs.Prelude.{◌≡◌};
 ghost use Rattle.files.specs.Turns.{Lent};
 ghost use Rattle.night.specs.Pieces.{standing, piece_of, turn_of, NightReady};
@@ -18,7 +20,7 @@ use text::Reading;
 
 // A night so far: the run, the line that is held, how many bytes were made for the writer last, and
 // whether it goes on.
-#[derive(Drop)]
+#[derive(Clone, Copy)]
 struct Night {
     run: Run,
     held: Held,

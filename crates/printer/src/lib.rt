@@ -1,6 +1,8 @@
 // Answers to bytes: what is told to event lines, printed into a lent room. The inner functions ask
 // for room and then store without asking; those that store fields begin each with a tab.
 
+#![tactic(auto)]
+
 mod said;
 
 ghost use Rattle.std.specs.Prelude.{◌≡◌, [], ◌∷◌, ◌+◌, ◌*◌, ◌≤◌, min, length};
@@ -22,7 +24,7 @@ use table::{Mode, Refusal, number_of};
 use text::Reading;
 
 // The two numbers that say an event line.
-#[derive(Drop)]
+#[derive(Clone, Copy)]
 pub(crate) struct LineValues {
     pub kind: u64,
     pub value: u64,
@@ -30,7 +32,7 @@ pub(crate) struct LineValues {
 
 // The nine numbers that tell what became of it: for a tick its number and mode; what, server, task;
 // how the earlier job left, its task; discarded. (Rattle.run.specs.Values.)
-#[derive(Drop)]
+#[derive(Clone, Copy)]
 pub(crate) struct ToldValues {
     pub kind: u64,
     pub number: u64,

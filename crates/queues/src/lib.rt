@@ -2,6 +2,8 @@
 // count of the front one. (01, What one tick does.) They are lent as two arrays; what a step makes of
 // them is in specs/Queues.antt, and when they are sound in specs/Sound.antt.
 
+#![tactic(auto)]
+
 ghost use Rattle.std.specs.Prelude.{◌≡◌, get_or, ◌-◌, ◌<◌, min};
 ghost use Rattle.laws.specs.Choice.{every};
 ghost use Rattle.laws.specs.Rows.{sum_below};
@@ -18,7 +20,7 @@ pub const QUEUE: u8 = 16;
 pub const MOST: u32 = 4000000000;
 
 // Whether the last taken tick ran a job, and of which task. No tick taken is no job run.
-#[derive(Drop)]
+#[derive(Clone, Copy)]
 pub enum Last {
     NoJob,
     Job(usize),

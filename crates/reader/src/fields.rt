@@ -16,7 +16,7 @@ pub const FIELDS: usize = 8;
 // The first field that is not as it should be, from 1, or 0 for their count; the number of each: the
 // worth of a number, the place of a word among those of its kind; how many were read; and where the
 // line ends.
-#[derive(Drop)]
+#[derive(Clone, Copy)]
 pub struct Fields {
     pub wrong: Found,
     pub values: [u64; FIELDS],

@@ -24,7 +24,7 @@ const BEHIND_SERVER: usize = 7;
 pub const BEHIND_TASK: usize = 5;
 
 // What a line says, and where it ends.
-#[derive(Drop)]
+#[derive(Clone, Copy)]
 pub struct LineRead {
     pub line: Line,
     pub end: usize,
@@ -160,7 +160,7 @@ pub(crate) fn begins(text: &[u8], word: &[u8]) -> bool
 }
 
 // The leading word of a line, and where the line ends.
-#[derive(Drop)]
+#[derive(Clone, Copy)]
 pub struct WordRead {
     pub word: Word,
     pub end: usize,

@@ -22,7 +22,7 @@ use text::{LONGEST_TEXT, Reading, Word};
 use units::Micros;
 
 // What a line says, and where it ends.
-#[derive(Drop)]
+#[derive(Clone, Copy)]
 pub struct FrameLineRead {
     pub line: FrameLine,
     pub end: usize,

@@ -1,6 +1,8 @@
 // The reader of table text. (01, Tables and Numbers for no.) Which answer is right is in crate
 // text, specs/Read.antt.
 
+#![tactic(auto)]
+
 mod fields;
 mod forms;
 pub mod frame;

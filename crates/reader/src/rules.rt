@@ -161,7 +161,7 @@ fn task_standing(
 }
 
 // Where the two server rows that a task line names are read; for a line that names none, row 0 is.
-#[derive(Drop)]
+#[derive(Clone, Copy)]
 pub struct Named {
     pub home: usize,
     pub degraded: usize,

@@ -3,6 +3,8 @@
 // show. Every number is counted by `next`, and every byte of the page made by `put_report`, which
 // neither read nor write (specs/Pieces.antt).
 
+#![tactic(auto)]
+
 mod count;
 mod page;
 
@@ -29,7 +31,7 @@ const BATCH: usize = 1024;
 
 // A file so far: the run, the line that is held, whether it goes on, and whether it was read to its
 // end.
-#[derive(Drop)]
+#[derive(Clone, Copy)]
 struct Morning {
     run: Run,
     held: Held,

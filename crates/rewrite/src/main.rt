@@ -1,5 +1,7 @@
 // rewrite TABLE: the table as the writer writes it; a refused table as its one line.
 
+#![tactic(auto)]
+
 ghost use Rattle.std.specs.Prelude.{◌≡◌, ◌≤◌, length, take};
 ghost use Rattle.rewrite.specs.Rewritten.{rewritten};
 

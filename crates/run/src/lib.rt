@@ -1,6 +1,8 @@
 // The run: a table with its state, and what is answered to a start and to events. (01, What one tick
 // does.)
 
+#![tactic(auto)]
+
 use events::{Answer, Starting, Taking};
 use queues::Last;
 use table::{Mode, SERVERS, TASKS, Table};
@@ -8,7 +10,7 @@ use units::Ticks;
 
 // The counts of a run, row by row. A task's queue is the number of its waiting jobs and the run
 // count of the front one. (Crate queues.)
-#[derive(Drop)]
+#[derive(Clone, Copy)]
 pub struct State {
     pub mode: Mode,
     pub used: [u32; SERVERS],
@@ -21,26 +23,26 @@ pub struct State {
 }
 
 // A state with its table.
-#[derive(Drop)]
+#[derive(Clone, Copy)]
 pub struct Run {
     pub table: Table,
     pub state: State,
 }
 
 // The mode after a job was judged, and whether it was cut.
-#[derive(Drop)]
+#[derive(Clone, Copy)]
 pub struct Judged {
     pub mode: Mode,
     pub cut: bool,
 }
 
-#[derive(Drop)]
+#[derive(Clone, Copy)]
 pub struct Begun {
     pub answer: Starting,
     pub run: Run,
 }
 
-#[derive(Drop)]
+#[derive(Clone, Copy)]
 pub struct Answered {
     pub answer: Answer,
     pub run: Run,
@@ -51,14 +53,14 @@ pub struct Answered {
 pub const FOUND_VALUES: usize = SERVERS + TASKS;
 
 // What is handed back for many event lines: the run after them.
-#[derive(Drop)]
+#[derive(Clone, Copy)]
 pub struct Many {
     pub answer: Taking,
     pub run: Run,
 }
 
 // The same, and how many ticks were taken among the lines.
-#[derive(Drop)]
+#[derive(Clone, Copy)]
 pub struct Finding {
     pub answer: Taking,
     pub run: Run,

@@ -20,7 +20,7 @@ use run::FOUND_VALUES;
 use table::{Mode, SERVERS, TASKS};
 
 // The highest row found so far, by its priority; 0 is nothing found.
-#[derive(Drop)]
+#[derive(Clone, Copy)]
 pub struct Highest {
     pub height: u32,
     pub row: usize,

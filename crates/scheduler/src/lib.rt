@@ -3,6 +3,8 @@
 // as it was. Soundness (13) is decided here, once; behind this door stand the steps on a sound
 // state.
 
+#![tactic(auto)]
+
 mod advance;
 mod choose;
 mod event;

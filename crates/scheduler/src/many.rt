@@ -19,14 +19,14 @@ use run::{FOUND_VALUES, Finding, Many, Run};
 use table::{Refusal, SERVERS, TASKS};
 
 // What is told to a line, and the head after it.
-#[derive(Drop)]
+#[derive(Clone, Copy)]
 pub struct Reply {
     pub told: Told,
     pub head: Head,
 }
 
 // The head after some lines, and how many ticks were taken among them.
-#[derive(Drop)]
+#[derive(Clone, Copy)]
 pub struct Passed {
     pub head: Head,
     pub ticks: usize,

@@ -13,7 +13,7 @@ use units::Ticks;
 // A run without its rows and their counts. `ran` says whether the last taken tick ran a job, and
 // `task` of which task; it is 0 if none. Two plain fields and no enum, since a head is copied at
 // every step and an enum's gaps make that slow.
-#[derive(Drop)]
+#[derive(Clone, Copy)]
 pub struct Head {
     pub nservers: usize,
     pub ntasks: usize,
@@ -25,7 +25,7 @@ pub struct Head {
 }
 
 // What is answered to an event, and the head after it.
-#[derive(Drop)]
+#[derive(Clone, Copy)]
 pub struct Step {
     pub answer: Answer,
     pub head: Head,

@@ -17,7 +17,7 @@ use table::{ByMode, Level, Mode, SERVERS, TASKS};
 use units::Ticks;
 
 // The mode after step 1, and the job that left.
-#[derive(Drop)]
+#[derive(Clone, Copy)]
 pub struct Risen {
     pub mode: Mode,
     pub left: Left,
@@ -25,7 +25,7 @@ pub struct Risen {
 
 // What steps 1 to 4 tell: the mode that step 5 finds, the job that left, and how many were
 // discarded.
-#[derive(Drop)]
+#[derive(Clone, Copy)]
 pub struct Settling {
     pub mode: Mode,
     pub left: Left,

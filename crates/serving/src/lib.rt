@@ -3,6 +3,8 @@
 // is their composition, and no loop over bytes is here. (crates/frameserving is the same for a frame
 // box: there is no code over both structs, but one law.)
 
+#![tactic(auto)]
+
 ghost use Rattle.std.specs.Prelude.{◌≡◌, length};
 ghost use Rattle.events.specs.Values.{lines_said};
 ghost use Rattle.run.specs.Events.{the_box};
@@ -20,7 +22,7 @@ use table::Refusal;
 // What is handed back for a buffer: the run and the line that is not closed yet, after it; how many
 // of its bytes were taken, and how many bytes of the lent room are their answers.
 // (specs/Buffer.antt.)
-#[derive(Drop)]
+#[derive(Clone, Copy)]
 pub struct Served {
     pub answer: Taking,
     pub run: Run,

@@ -1,6 +1,8 @@
 // The frame of the older cabinet: which partition has which slot. (02, No. 6.) The rule that it
 // keeps is in specs/Frame.antt.
 
+#![tactic(auto)]
+
 ghost use Rattle.std.specs.Prelude.{◌≡◌, ◌%◌, get_or};
 ghost use Rattle.slots.specs.Frame.{owner_at, the_frame};
 

@@ -1,6 +1,8 @@
 // Whether a state is sound. (01, Numbers for no: "A state is sound (else 13) if ..") Asked once, at
 // the door.
 
+#![tactic(auto)]
+
 ghost use Rattle.std.specs.Prelude.{◌≡◌, ◌&&◌, ◌||◌, ◌≤◌, leb, ltb, eqb};
 ghost use Rattle.laws.specs.Choice.{every};
 ghost use Rattle.table.specs.Rows.{is_low, is_d2};

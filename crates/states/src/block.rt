@@ -10,7 +10,7 @@ use units::{Micros, Ticks};
 
 // The rows given so far are the first servers, tasks, budgets and queues. A frame block has its table
 // and state in `frame`, a table block in `table` and `state`; one that is not open is empty.
-#[derive(Drop)]
+#[derive(Clone, Copy)]
 pub struct Block {
     pub open: bool,
     pub framed: bool,
@@ -24,7 +24,7 @@ pub struct Block {
     pub queues: usize,
 }
 
-#[derive(Drop)]
+#[derive(Clone, Copy)]
 pub enum Operation {
     Fresh,
     Release(usize),

@@ -18,7 +18,7 @@ const FIELDS: usize = 9;
 
 // How many fields a line has, or one more than the most, and the number of each. A word is no
 // number.
-#[derive(Drop)]
+#[derive(Clone, Copy)]
 pub struct Fields {
     pub count: usize,
     pub values: [u64; FIELDS],

@@ -1,6 +1,8 @@
 // `states FILE`: tables and states by their fields, block by block, and what the library answers to each. The format is in
 // second/STATES.md; `-` is standard input. A line that breaks the format is said on standard error, and ends the program.
 
+#![tactic(auto)]
+
 mod answer;
 mod block;
 mod frame;
@@ -17,7 +19,7 @@ use libc::STDERR_FILENO;
 const LONGEST_LINE: usize = 256;
 
 // What was taken of the file so far: the block that is open, and how many bytes of the line that is not closed yet are held.
-#[derive(Drop)]
+#[derive(Clone, Copy)]
 struct Feed {
     block: Block,
     len: usize,

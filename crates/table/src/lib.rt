@@ -1,6 +1,8 @@
 // A table's types, and whether a table keeps the rules. (01, Tables.) The rules are in
 // specs/Rules.antt.
 
+#![tactic(auto)]
+
 ghost use Rattle.std.specs.Prelude.{◌≡◌, take, ◌≤◌, min};
 ghost use Rattle.laws.specs.Choice.{every};
 ghost use Rattle.table.specs.Refusals.{number_of, is_kept};
@@ -18,20 +20,20 @@ pub const TASKS: usize = 64;
 
 pub const MODES: usize = 3;
 
-#[derive(Drop)]
+#[derive(Clone, Copy)]
 pub enum Kind {
     Event,
     Timed,
 }
 
-#[derive(Drop)]
+#[derive(Clone, Copy)]
 pub enum Level {
     LO,
     MI,
     HI,
 }
 
-#[derive(Drop)]
+#[derive(Clone, Copy)]
 pub enum Mode {
     N,
     D1,
@@ -39,7 +41,7 @@ pub enum Mode {
 }
 
 // A number of ticks for each mode: a server's capacities, a task's limits.
-#[derive(Drop)]
+#[derive(Clone, Copy)]
 pub struct ByMode {
     pub n: Ticks,
     pub d1: Ticks,
@@ -47,7 +49,7 @@ pub struct ByMode {
 }
 
 // A server's first period begins with the tick whose number is its phase.
-#[derive(Drop)]
+#[derive(Clone, Copy)]
 pub struct Server {
     pub partition: u8,
     pub kind: Kind,
@@ -57,7 +59,7 @@ pub struct Server {
     pub phase: Ticks,
 }
 
-#[derive(Drop)]
+#[derive(Clone, Copy)]
 pub struct Task {
     pub home: u8,
     pub degraded: u8,
@@ -67,7 +69,7 @@ pub struct Task {
 }
 
 // The rows in use are the first nservers and the first ntasks.
-#[derive(Drop)]
+#[derive(Clone, Copy)]
 pub struct Table {
     pub tick: Micros,
     pub nservers: usize,
@@ -77,7 +79,7 @@ pub struct Table {
 }
 
 // Why something is refused. The paper's number of each is number_of, in specs/Refusals.antt.
-#[derive(Drop)]
+#[derive(Clone, Copy)]
 pub enum Refusal {
     Malformed,
     OutOfBounds,
@@ -125,7 +127,7 @@ pub fn number_of(why: Refusal) -> u64
 
 // Whether a line or a row keeps the rules where it stands, or which it breaks, and at which field:
 // they count from 1 after the leading word, and 0 is the line itself.
-#[derive(Drop)]
+#[derive(Clone, Copy)]
 pub enum Standing {
     Kept,
     Broken(Refusal, usize),
@@ -185,7 +187,7 @@ pub fn no_table() -> Table
 }
 
 // Two rows of equal priority, the smaller first, or none.
-#[derive(Drop)]
+#[derive(Clone, Copy)]
 pub enum Pair {
     Equal(usize, usize),
     Differ,

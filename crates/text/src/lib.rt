@@ -2,6 +2,8 @@
 // Numbers for no.) Which answer is right is in specs/: Line.antt, Standing.antt, Read.antt,
 // Write.antt. The code is in the crates reader and writer.
 
+#![tactic(auto)]
+
 use table::{Kind, Level, Refusal, Table};
 use units::Micros;
 
@@ -9,7 +11,7 @@ use units::Micros;
 pub const LONGEST_TEXT: usize = 16384;
 
 // A time for each mode, as a line has it: a server's capacities, a task's limits.
-#[derive(Drop)]
+#[derive(Clone, Copy)]
 pub struct Times {
     pub n: Micros,
     pub d1: Micros,
@@ -17,13 +19,13 @@ pub struct Times {
 }
 
 // A last field that may be absent: a server's phase.
-#[derive(Drop)]
+#[derive(Clone, Copy)]
 pub enum LastField {
     Absent,
     Given(Micros),
 }
 
-#[derive(Drop)]
+#[derive(Clone, Copy)]
 pub struct ServerLine {
     pub partition: u64,
     pub kind: Kind,
@@ -33,7 +35,7 @@ pub struct ServerLine {
     pub phase: LastField,
 }
 
-#[derive(Drop)]
+#[derive(Clone, Copy)]
 pub struct TaskLine {
     pub home: u64,
     pub degraded: u64,
@@ -43,7 +45,7 @@ pub struct TaskLine {
 }
 
 // The leading word of a line: which kind of line it begins, or none.
-#[derive(Drop)]
+#[derive(Clone, Copy)]
 pub enum Word {
     ATick,
     AServer,
@@ -53,7 +55,7 @@ pub enum Word {
 
 // What a line says, nothing of it judged but its form: a malformed one has its leading word and the
 // first field that is wrong, from 1, or 0 for an unknown word or a wrong count of fields.
-#[derive(Drop)]
+#[derive(Clone, Copy)]
 pub enum Line {
     OfTick(Micros),
     OfServer(ServerLine),
@@ -63,7 +65,7 @@ pub enum Line {
 
 // What the reader answers: lines count from 1, and 0 is the text itself; fields count from 1 after
 // the leading word, and 0 is the line itself.
-#[derive(Drop)]
+#[derive(Clone, Copy)]
 pub enum Reading {
     Taken,
     Refused {
@@ -79,14 +81,14 @@ pub enum Reading {
 
 // The table stands beside the answer. Where the text is refused it is one without rows, noTable of
 // crate table.
-#[derive(Drop)]
+#[derive(Clone, Copy)]
 pub struct Read {
     pub answer: Reading,
     pub table: Table,
 }
 
 // What the writer answers: how many bytes of the lent room are the text, or why there is none.
-#[derive(Drop)]
+#[derive(Clone, Copy)]
 pub enum Writing {
     Written(usize),
     Refused(Refusal),

@@ -1,5 +1,7 @@
 // How fast a server answers in a mode (01, Verdicts), and whether a table fits (02, No. 5).
 
+#![tactic(auto)]
+
 ghost use Rattle.std.specs.Prelude.{◌≡◌, true, ◌≤◌, ◌<◌};
 ghost use Rattle.laws.specs.Search.{least};
 ghost use Rattle.laws.specs.RoundUp.{up};
@@ -13,7 +15,7 @@ use table::{Kind, MODES, Mode, Refusal, SERVERS, Table};
 use units::Ticks;
 
 // The least response, "misses", or a refusal.
-#[derive(Drop)]
+#[derive(Clone, Copy)]
 pub enum Verdict {
     Response(Ticks),
     Misses,
@@ -21,7 +23,7 @@ pub enum Verdict {
 }
 
 // A row's verdicts in the three modes.
-#[derive(Drop)]
+#[derive(Clone, Copy)]
 pub struct RowVerdicts {
     pub n: Verdict,
     pub d1: Verdict,
@@ -29,7 +31,7 @@ pub struct RowVerdicts {
 }
 
 // Whether a table fits: yes, the least miss, or a refusal. (02, No. 5.)
-#[derive(Drop)]
+#[derive(Clone, Copy)]
 pub enum Fits {
     Yes,
     Miss { mode: Mode, row: usize },
@@ -39,7 +41,7 @@ pub enum Fits {
 // The servers that delay a row in a mode, one after the other: those of higher priority that have
 // capacity. `late` has the late-then-early term of each. They are numbers in columns, made once and
 // lent, since a climb may take a million steps.
-#[derive(Drop)]
+#[derive(Clone, Copy)]
 struct Higher {
     count: usize,
     periods: [u32; SERVERS],

@@ -2,6 +2,8 @@
 // there is none; a refused table as its one line. The page is made by `put_page`, which neither
 // reads nor writes (specs/Page.antt).
 
+#![tactic(auto)]
+
 ghost use Rattle.std.specs.Prelude.{◌≡◌, true, [], ◌∷◌, ◌++◌};
 ghost use Rattle.decimal.specs.Lines.{tab, closed};
 ghost use Rattle.decimal.specs.Room.{Put};

@@ -1,6 +1,8 @@
 // The writer of table text. (01, Tables and Numbers for no.) What the text of a table is, and what
 // is answered and left in the lent room, is in crate text, specs/Write.antt.
 
+#![tactic(auto)]
+
 ghost use Rattle.std.specs.Prelude.{◌≡◌, true, [], ◌∷◌, ◌++◌, map, ◌≤◌};
 ghost use Rattle.decimal.specs.Number.{digits};
 ghost use Rattle.decimal.specs.Lines.{tab, join, closed};
