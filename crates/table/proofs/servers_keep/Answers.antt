@@ -1,0 +1,30 @@
+-- `table::servers_keep` meets its contract: each row passed keeps the rules, so the first that does
+-- not decides. Assumes nothing.
+use mathlib.Core.Path.{◌≡◌, sym, ◌∙◌}
+use mathlib.Core.Bool.{true}
+use Prim.Native.Nat.{◌-◌, ◌≤◌}
+use native.Mathlib.Omega.{arith}
+use borrow.Author.Rules.{rules}
+use borrow.Author.Tests.{not-true, not-false}
+use Rattle.laws.proofs.Rows.{all_none, all_more, all_fails}
+use Rattle.table.specs.Inner.{servers_keep}
+use Rattle.table.proofs.servers_keep.Goals as goal
+
+pub loop-i-init : goal.loop-i-init
+loop-i-init c = (omega arith, sym (all_none _))
+
+pub returns-then-not-server_keeps : goal.returns-then-not-server_keeps
+returns-then-not-server_keeps c =
+    let e = sym c.server_keeps.ensures ∙ c.if-not-server_keeps.true in
+    sym (all_fails _ _ _ (omega arith) e)
+
+pub loop-i-preserved : goal.loop-i-preserved
+loop-i-preserved c =
+    let l = c.loop-i in
+    let e = sym c.server_keeps.ensures ∙ c.if-not-server_keeps.false in
+    (omega arith, all_more _ l.i l.invariant.1 e)
+
+pub returns : goal.returns
+returns c =
+    let e : c.loop-i.i ≡ c.args.n = omega arith in
+    rw (← e) (sym c.loop-i.invariant.1)

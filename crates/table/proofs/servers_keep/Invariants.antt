@@ -1,0 +1,17 @@
+-- `table::servers_keep` meets its contract: each row passed keeps the rules, so the first that does
+-- not decides. Assumes nothing.
+use mathlib.Core.Path.{◌≡◌, sym, ◌∙◌}
+use mathlib.Core.Bool.{true}
+use Prim.Native.Nat.{◌-◌, ◌≤◌}
+use native.Mathlib.Omega.{arith}
+use borrow.Author.Rules.{rules}
+use borrow.Author.Tests.{not-true, not-false}
+use Rattle.laws.proofs.Rows.{all_none, all_more, all_fails}
+use Rattle.table.specs.Inner.{servers_keep}
+use Rattle.table.proofs.servers_keep.Given as goal
+
+abbrev pub invariant-loop-i : goal.invariant-loop-i
+invariant-loop-i l = (l.i ≤ l.n) × (servers_keep l.ss l.i ≡ true)
+
+abbrev pub decreases-loop-i : goal.decreases-loop-i
+decreases-loop-i l = l.n - l.i

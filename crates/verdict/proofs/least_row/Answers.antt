@@ -1,0 +1,43 @@
+-- `verdict::least_row` meets its contract: before row i, none of the rows passed misses. Assumes
+-- nothing.
+use mathlib.Core.Path.{◌≡◌, sym, ◌∙◌}
+use mathlib.Core.Bool.{false}
+use Prim.Native.Nat.{◌-◌, ◌≤◌}
+use native.Mathlib.Omega.{arith}
+use borrow.Author.Count.{below_more}
+use borrow.Author.Rules.{rules}
+use Rattle.laws.specs.declared.Found.{Found}
+use Rattle.verdict.specs.Verdict.{told}
+use Rattle.verdict.specs.Fits.{is_miss}
+use Rattle.verdict.proofs.Fitting.{misses, NoneMisses, row_told, row-misses, no-row-misses}
+use Rattle.verdict.proofs.least_row.Goals as goal
+use Rattle.verdict.proofs.least_row.Goals.{After-response-f}
+
+-- whether the row at hand misses, by what was found
+at_hand : (c : After-response-f) (f : Found) → c.response-f.result ≡ f →
+    misses c.args.t c.args.m c.loop-row.row ≡ is_miss (told f)
+at_hand c f e =
+    row_told c.args.t c.args.m c.requires c.loop-row.row f c.loop-row-test.true
+    (sym c.response-f.ensures ∙ e)
+
+pub loop-row-init : goal.loop-row-init
+loop-row-init c = (omega arith, λ k h. absurd (omega arith))
+
+pub returns-in-Nothing : goal.returns-in-Nothing
+returns-in-Nothing c =
+    row-misses c.args.t c.args.m c.requires c.loop-row.row c.loop-row-test.true
+    (at_hand (goal.at.returns-in-Nothing c).After-response-f _ c.in-Nothing.is) c.loop-row.invariant.1
+
+pub loop-row-preserved : goal.loop-row-preserved
+loop-row-preserved c =
+    let a = c.args in (
+      omega arith,
+      below_more (λ k. misses a.t a.m k ≡ false) c.loop-row.row c.loop-row.invariant.1
+          (at_hand (goal.at.loop-row-preserved c).After-response-f _ c.in_default.is),
+    )
+
+pub returns : goal.returns
+returns c =
+    let l = c.loop-row in
+    let e : l.row ≡ c.args.t.nservers = omega arith in
+    no-row-misses c.args.t c.args.m c.requires (rw e at l.invariant.1)
