@@ -1,10 +1,8 @@
 -- `verdict::climb` meets its contract. The loop's invariant: no number from 1 on and below r meets
 -- the inequality; the climbing law keeps it. The measure is what is left of the period. Assumes
 -- nothing.
-use Prim.Native.Nat.{suc, ◌-◌, ◌≤◌}
 use native.Mathlib.Omega.{arith}
-use borrow.Author.Rules.{rules}
-use Rattle.laws.proofs.Climb.{NonePasses, climb_start}
+use Rattle.laws.proofs.Climb.{climb_start}
 use Rattle.verdict.specs.Inner.{meets_in}
 use Rattle.verdict.proofs.Columns.{in-le}
 use Rattle.verdict.proofs.Least.{next_tried, found_least, found_none}

@@ -1,63 +1,57 @@
 -- `verdict::higher_than` meets its contract. The loop's invariant: the servers in the columns are
 -- those of the rows passed that delay the row. The measure is the rows left. Assumes nothing.
-use mathlib.Core.Path.{◌≡◌, refl, sym, ap, ◌∙◌}
-use mathlib.Core.Logic.{⊎_elim}
-use Prim.Native.Nat.{◌≤◌, ◌<◌, ◌-◌}
+use mathlib.Core.Path.{◌≡◌, refl, ap}
+use Prim.Native.Nat.{◌≤◌, ◌<◌}
 use native.Mathlib.Omega.{arith}
-use lib.ListN.{length-map}
-use borrow.Author.Tests.{eqb-true}
-use borrow.Author.Rules.{rules}
 use Rattle.units.specs.declared.Ticks.{Ticks}
 use Rattle.table.specs.Inner.{Sized}
-use Rattle.table.proofs.Rules.{ServerRules, table_rules}
-use Rattle.verdict.proofs.Delays.{Passed, none_passed, lower-passed, idle-passed, higher-passed, all-passed}
+use Rattle.table.proofs.Rules.{ServerRules, table_rules, few_servers}
+use Rattle.verdict.proofs.Delays.{none_passed, lower-passed, idle-passed, higher-passed, all-passed}
 use Rattle.verdict.proofs.higher_than.Goals as goal
-use Rattle.verdict.proofs.higher_than.Goals.{In-loop-i, Start}
+use Rattle.verdict.proofs.higher_than.Goals.{In-loop-i, then-s-priority-via-then-s-priority, then-s-priority-via-else-s-priority+then-capacity-eq0}
 
--- the table's array has its length
-size : (c : Start) → Sized c.args.t
-size c =
-    record {
-      servers = sym (length-map c.args.t.servers _) ∙ (omega arith);
-      tasks = sym (length-map c.args.t.tasks _) ∙ (omega arith);
-    }
+-- the table's arrays have their lengths
+size : (c : In-loop-i) → Sized c.args.t
+size c = record { servers = omega arith; tasks = omega arith }
 
-few : (c : Start) → c.args.t.nservers ≤ 32
-few c = (table_rules c.args.t (size c) c.requires.0).servers_high
+-- there are few rows
+few : (c : In-loop-i) → c.args.t.nservers ≤ 32
+few c = few_servers c.args.t c.requires.0
 
 -- the row at hand keeps its bounds
-rules : (c : In-loop-i) → ServerRules c.args.t c.loop-i.i
-rules c =
+row_rules : (c : In-loop-i) → ServerRules c.args.t c.loop-i.i
+row_rules c =
     (table_rules c.args.t (size c) c.requires.0).server c.loop-i.i c.loop-i-test.true
 
 pub offset_bounds-t-row : goal.offset_bounds-t-row
-offset_bounds-t-row c = omega (arith, few (goal.at.offset_bounds-t-row c).Start)
+offset_bounds-t-row c = omega (arith, few_servers c.args.t c.requires.0)
 
 pub bounds-t-row : goal.bounds-t-row
-bounds-t-row c = omega (arith, few (goal.at.bounds-t-row c).Start)
+bounds-t-row c = omega (arith, few_servers c.args.t c.requires.0)
 
 pub loop-i-init : goal.loop-i-init
 loop-i-init c = let a = c.args in (omega arith, none_passed a.t a.m a.row _ _ _ refl refl refl)
 
 pub offset_bounds-t-i : goal.offset_bounds-t-i
-offset_bounds-t-i c = omega (arith, few (goal.at.offset_bounds-t-i c).Start)
+offset_bounds-t-i c = omega (arith, few (goal.at.offset_bounds-t-i c).In-loop-i)
 
 pub bounds-t-i : goal.bounds-t-i
-bounds-t-i c = omega (arith, few (goal.at.bounds-t-i c).Start)
+bounds-t-i c = omega (arith, few (goal.at.bounds-t-i c).In-loop-i)
 
 pub loop-i-preserved-then-s-priority : goal.loop-i-preserved-then-s-priority
 loop-i-preserved-then-s-priority c =
     let l = c.loop-i in
     let a = c.args in (
       omega arith,
-      ⊎_elim
-          (λ w. lower-passed a.t a.m a.row l.periods l.capacities l.late l.i l.count
-          l.invariant.1 w.taken)
-          (λ w. idle-passed a.t a.m a.row l.periods l.capacities l.late l.i l.count
-          l.invariant.1 c.in_mode-capacity.result.0
-          (ap (λ (x : Ticks). x.0) c.in_mode-capacity.ensures)
-          (eqb-true c.in_mode-capacity.result.0 0 w.1.taken))
-          c.then-s-priority.branch,
+      elim c.then-s-priority.branch [
+        | then-s-priority-via-then-s-priority w ↦
+            lower-passed a.t a.m a.row l.periods l.capacities l.late l.i l.count l.invariant.1 w.if-s-priority.true
+        | then-s-priority-via-else-s-priority+then-capacity-eq0 w ↦
+            idle-passed a.t a.m a.row l.periods l.capacities l.late l.i l.count l.invariant.1
+            c.in_mode-capacity.result.0
+            (ap (λ (x : Ticks). x.0) c.in_mode-capacity.ensures)
+            w.if-capacity-eq0.true
+      ],
     )
 
 -- there is room for one server more
@@ -78,7 +72,7 @@ bounds-capacities-count c = room (goal.at.bounds-capacities-count c).In-loop-i
 
 pub late_of-requires : goal.late_of-requires
 late_of-requires c =
-    omega (arith, ap (λ (x : Ticks). x.0) c.in_mode-capacity.ensures, (rules (goal.at.late_of-requires c).In-loop-i).capacity c.args.m)
+    omega (arith, ap (λ (x : Ticks). x.0) c.in_mode-capacity.ensures, (row_rules (goal.at.late_of-requires c).In-loop-i).capacity c.args.m)
 
 pub offset_bounds-late-count : goal.offset_bounds-late-count
 offset_bounds-late-count c = omega (arith, room (goal.at.offset_bounds-late-count c).In-loop-i)
@@ -96,8 +90,8 @@ loop-i-preserved c =
       omega arith,
       higher-passed a.t a.m a.row l.periods l.capacities l.late l.i l.count l.invariant.1
           c.in_mode-capacity.result.0 c.late_of.result
-          (omega (arith, few (goal.at.loop-i-preserved c).Start, c.loop-i-test.true))
-          (rules (goal.at.loop-i-preserved c).In-loop-i)
+          (omega (arith, few_servers a.t c.requires.0, c.loop-i-test.true))
+          (row_rules (goal.at.loop-i-preserved c).In-loop-i)
           c.if-s-priority.false
           (ap (λ (x : Ticks). x.0) c.in_mode-capacity.ensures)
           c.late_of.ensures,
@@ -109,4 +103,4 @@ returns c =
     let a = c.args in
     let e : l.i ≡ a.t.nservers = omega arith in
     all-passed a.t a.m a.row l.periods l.capacities l.late l.i l.count l.invariant.1 e
-    (omega (arith, few (goal.at.returns c).Start))
+    (omega (arith, few_servers a.t c.requires.0))

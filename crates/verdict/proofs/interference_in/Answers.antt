@@ -2,10 +2,9 @@
 -- servers passed, so it is at most 3,000,000 for each of them. The measure is the servers left.
 -- Assumes nothing.
 use mathlib.Core.Path.{◌≡◌}
-use Prim.Native.Nat.{◌+◌, ◌*◌, ◌≤◌, ◌-◌}
+use Prim.Native.Nat.{◌+◌, ◌*◌, ◌≤◌}
 use native.Mathlib.Omega.{arith}
 use lib.ListN.{get_or}
-use borrow.Author.Rules.{rules}
 use Rattle.verdict.specs.Inner.{interference_in, Bounded}
 use Rattle.verdict.proofs.Columns.{in_none, in_next, in-le}
 use Rattle.verdict.proofs.interference_in.Goals as goal
@@ -73,7 +72,7 @@ small c =
     omega (
       arith,
       next c,
-      few c,
+      c.requires.0.few,
       in-le a.periods.now a.capacities.now a.late.now a.count c.requires.0 a.r (i + 1) c.requires.1
           (omega arith),
     )

@@ -2,12 +2,8 @@
 -- servers passed, so it is at most 3,000,000 for each of them. The measure is the servers left.
 -- Assumes nothing.
 use mathlib.Core.Path.{◌≡◌}
-use Prim.Native.Nat.{◌+◌, ◌*◌, ◌≤◌, ◌-◌}
-use native.Mathlib.Omega.{arith}
-use lib.ListN.{get_or}
-use borrow.Author.Rules.{rules}
-use Rattle.verdict.specs.Inner.{interference_in, Bounded}
-use Rattle.verdict.proofs.Columns.{in_none, in_next, in-le}
+use Prim.Native.Nat.{◌≤◌, ◌-◌}
+use Rattle.verdict.specs.Inner.{interference_in}
 use Rattle.verdict.proofs.interference_in.Given as goal
 
 abbrev pub invariant-loop-i : goal.invariant-loop-i

@@ -1,10 +1,8 @@
 -- `verdict::response` meets its contract: without capacity it is 0, else what the climb finds.
 -- Assumes nothing.
-use mathlib.Core.Path.{sym, ap, ◌∙◌}
+use mathlib.Core.Path.{ap}
 use Prim.Native.Nat.{◌≤◌}
 use native.Mathlib.Omega.{arith}
-use lib.ListN.{length-map}
-use borrow.Author.Rules.{rules}
 use Rattle.units.specs.declared.Ticks.{Ticks}
 use Rattle.table.specs.Inner.{Sized}
 use Rattle.table.proofs.Rules.{table_rules}
@@ -15,8 +13,8 @@ use Rattle.verdict.proofs.response.Goals.{Start}
 size : (c : Start) → Sized c.args.t
 size c =
     record {
-      servers = sym (length-map c.args.t.servers _) ∙ (omega arith);
-      tasks = sym (length-map c.args.t.tasks _) ∙ (omega arith);
+      servers = omega arith;
+      tasks = omega arith;
     }
 
 few : (c : Start) → c.args.t.nservers ≤ 32

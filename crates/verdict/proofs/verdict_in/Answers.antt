@@ -2,8 +2,6 @@
 -- the period, so it fits a tick count. Assumes nothing.
 use mathlib.Core.Path.{sym, ap, ◌∙◌}
 use native.Mathlib.Omega.{arith}
-use lib.ListN.{length-map}
-use borrow.Author.Rules.{rules}
 use Rattle.table.specs.Inner.{Sized}
 use Rattle.table.proofs.Rules.{table_rules}
 use Rattle.verdict.specs.Verdict.{told}
@@ -14,8 +12,8 @@ use Rattle.verdict.proofs.verdict_in.Goals.{Start}
 size : (c : Start) → Sized c.args.t
 size c =
     record {
-      servers = sym (length-map c.args.t.servers _) ∙ (omega arith);
-      tasks = sym (length-map c.args.t.tasks _) ∙ (omega arith);
+      servers = omega arith;
+      tasks = omega arith;
     }
 
 pub overflow_cast-result : goal.overflow_cast-result

@@ -3,8 +3,6 @@
 use mathlib.Core.Path.{◌≡◌, sym, ◌∙◌}
 use mathlib.Core.Bool.{true}
 use native.Mathlib.Omega.{arith}
-use borrow.Author.Tests.{not-true, not-false}
-use borrow.Author.Rules.{rules}
 use Rattle.table.specs.Rules.{table_keeps}
 use Rattle.verdict.proofs.Verdicts.{verdict_unsound, verdict_absent}
 use Rattle.verdict.proofs.verdict_of.Goals as goal

@@ -2,13 +2,11 @@
 -- written. Assumes nothing.
 use mathlib.Core.Path.{◌≡◌, sym, ◌∙◌}
 use mathlib.Core.Bool.{true}
-use Prim.Native.Nat.{◌-◌, ◌≤◌}
+use Prim.Native.Nat.{◌≤◌}
 use native.Mathlib.Omega.{arith}
-use borrow.Author.Tests.{not-true, not-false}
-use borrow.Author.Rules.{rules}
 use Rattle.table.specs.Rules.{table_keeps}
 use Rattle.table.proofs.Rules.{few_servers}
-use Rattle.verdict.proofs.Fitting.{RowsWritten, none_written, row_written, all_written, none_kept}
+use Rattle.verdict.proofs.Fitting.{none_written, row_written, all_written, none_kept}
 use Rattle.verdict.proofs.verdicts_of.Goals as goal
 use Rattle.verdict.proofs.verdicts_of.Goals.{Else-not-table_keeps}
 
@@ -38,12 +36,11 @@ pub bounds-all-row : goal.bounds-all-row
 bounds-all-row c = omega (arith, few (goal.at.bounds-all-row c).Else-not-table_keeps)
 
 pub loop-row-preserved : goal.loop-row-preserved
-loop-row-preserved c =
-    (
-      omega arith,
-      row_written c.args.t c.loop-row.row c.loop-row.all c.row_verdicts.result
-          (omega (arith, few (goal.at.loop-row-preserved c).Else-not-table_keeps, c.loop-row-test.true)) c.loop-row.invariant.1 c.row_verdicts.ensures,
-    )
+loop-row-preserved c = (
+  omega arith,
+  row_written c.args.t c.loop-row.row c.loop-row.all c.row_verdicts.result
+      (omega (arith, few (goal.at.loop-row-preserved c).Else-not-table_keeps, c.loop-row-test.true)) c.loop-row.invariant.1 c.row_verdicts.ensures,
+)
 
 pub returns : goal.returns
 returns c =

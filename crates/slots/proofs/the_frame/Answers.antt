@@ -3,12 +3,8 @@
 use mathlib.Core.Path.{refl}
 use Rattle.laws.specs.Rows.{listed}
 use Rattle.slots.specs.Frame.{rule_of, the_frame}
-use Rattle.slots.proofs.the_frame.Statement.{statement}
-use Rattle.slots.proofs.the_frame.Tie as tie
+use Rattle.slots.proofs.the_frame.Goals as goal
 
-returns : tie.Need-returns
+pub returns : goal.returns
 unfolding the_frame listed rule_of
 returns c = refl
-
-pub the_frame_spec : {M : Type 1} → statement M
-the_frame_spec = tie.close (tie.spec returns)
