@@ -1,9 +1,8 @@
 -- The definitions on small queues, computed: a slip in a definition shows here as an equation that
 -- fails. The laws say more than these. Assumes nothing.
 use mathlib.Core.Path.{◌≡◌, refl}
-use mathlib.Core.Bool.{Bool, true, false}
-use mathlib.Core.List.{List, [], ◌∷◌}
-use Prim.Native.Nat.{ℕ}
+use mathlib.Core.Bool.{true, false}
+use mathlib.Core.List.{[], ◌∷◌}
 use Rattle.laws.specs.Choice.{every}
 use Rattle.laws.specs.Rows.{anew}
 use Rattle.events.specs.declared.Turn.TheVariants.{Run as Ran}

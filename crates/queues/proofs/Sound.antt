@@ -1,20 +1,20 @@
 -- What it says that queues are sound, as plain facts, and back: from the facts, that they are. And
 -- each step keeps them so. Assumes nothing.
 use mathlib.Core.Path.{◌≡◌, refl, ap, sym, ◌∙◌}
-use mathlib.Core.Bool.{Bool, true, false, ◌&&◌, ◌||◌}
+use mathlib.Core.Bool.{Bool, true, ◌&&◌, ◌||◌}
 use mathlib.Core.List.{[], ◌∷◌}
 use mathlib.Core.Logic.{◌⊎◌, inl, inr}
 use Prim.Native.Nat.{ℕ, ◌+◌, ◌-◌, ◌≤◌, ◌<◌}
 use native.Mathlib.Omega.{arith}
 use lib.Dec.{leb, ltb, eqb}
 use lib.ListN.{length}
-use borrow.Author.Tests.{ltb-true, ltb-false, leb-true, eqb-true, lt-ltb, le-ltb, le-leb, eq-eqb}
+use borrow.Author.Tests.{ltb-true, leb-true, eqb-true, lt-ltb, le-ltb, le-leb, eq-eqb}
 use Rattle.laws.specs.Choice.{every}
 use Rattle.laws.specs.Rows.{sum_below}
 use Rattle.laws.proofs.Choice.{le_or_lt, and_true, and_left, and_right, or_cases, or_true_left, or_true_right, every_at}
 use Rattle.events.specs.declared.Turn.{Turn}
 use Rattle.events.specs.declared.Turn.TheVariants.{Run as Ran, Empty, Idle}
-use Rattle.events.specs.Answers.{one, ran}
+use Rattle.events.specs.Answers.{ran}
 use Rattle.events.proofs.Answers.{one_here, one_past_lem, one_eq, same_or_not, ran_is}
 use Rattle.queues.specs.declared.Last.{Last}
 use Rattle.queues.specs.declared.Last.TheVariants.{NoJob, Job}

@@ -1,0 +1,12 @@
+-- `events::store_values` meets its contract: the numbers passed are copied. Assumes nothing.
+use mathlib.Core.Path.{◌≡◌}
+use Prim.Native.Nat.{◌≤◌, ◌-◌}
+use lib.ListN.{length}
+use lib.Seq.{paste}
+use Rattle.events.proofs.store_values.Given as goal
+
+abbrev pub invariant-loop-j : goal.invariant-loop-j
+invariant-loop-j l = (l.j ≤ 9) × (l.room ≡ paste l.initial.room l.at l.values l.j) × (length l.room ≡ length l.initial.room)
+
+abbrev pub decreases-loop-j : goal.decreases-loop-j
+decreases-loop-j l = 9 - l.j
