@@ -6,9 +6,8 @@
 
 ghost use Rattle.std.specs.Prelude.{◌≡◌, true, [], ◌++◌, ◌+◌, ◌≤◌, length, get_or};
 ghost use Rattle.std.proofs.lemmas.List.Edits.{sets};
-ghost use Rattle.bytes.specs.Bytes.{index_of, slice};
 ghost use Rattle.laws.specs.Choice.{one_if};
-ghost use Rattle.decimal.specs.Lines.{line_feed};
+ghost use Rattle.decimal.specs.Lines.{line_feed, index_of, slice};
 ghost use Rattle.events.specs.Values.{line_values};
 ghost use Rattle.lines.specs.EventLine.{event_line};
 ghost use Rattle.lines.specs.HeldLine.{line_in, held_of, too_long};
@@ -206,10 +205,10 @@ fn line_end(input: &[u8], at: usize) -> usize
     ensures upper_bound { result ≤ length input.now }
 {
     if input.len() - at < 4 {
-        return bytes::scan::find(input, at, input.len(), LINE_FEED);
+        return decimal::find(input, at, LINE_FEED);
     }
     if input[at + 3] != LINE_FEED {
-        return bytes::scan::find(input, at, input.len(), LINE_FEED);
+        return decimal::find(input, at, LINE_FEED);
     }
     if input[at] == LINE_FEED {
         return at;

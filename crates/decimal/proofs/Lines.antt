@@ -7,33 +7,32 @@ use lib.Seq.{take-length}
 use borrow.Author.Tests.{not-true}
 use Rattle.laws.proofs.Choice.{clash, and_true, and_left, and_right, within_low}
 use Rattle.laws.specs.Choice.{within}
-use Rattle.bytes.specs.Bytes.{index_of, index_after, slice}
 use Rattle.decimal.proofs.Numbers.{are_digits_lem, number_is_digits}
-use Rattle.decimal.specs.Lines.{to_first, split, line_feed, join, closed, same}
+use Rattle.decimal.specs.Lines.{to_first, split, line_feed, join, closed, same, index_of, slice}
 use Rattle.decimal.specs.Number.{are_digits, is_number, digits}
 
 -- the first b of a list
 pub index_cut : (b : ℕ) (l : List ℕ) → index_of b l < length l →
     split b l ≡ take (index_of b l) l ∷ split b (drop (suc (index_of b l)) l)
-unfolding index_of index_after split
+unfolding index_of split
 index_cut b [] h = absurd (omega arith)
 index_cut b (x ∷ xs) h = go (eqb x b) refl h (index_cut b xs)
   where
     go : (t : Bool) → eqb x b ≡ t → index_of b (x ∷ xs) < length (x ∷ xs) →
         (index_of b xs < length xs → split b xs ≡ take (index_of b xs) xs ∷ split b (drop (suc (index_of b xs)) xs)) →
         split b (x ∷ xs) ≡ take (index_of b (x ∷ xs)) (x ∷ xs) ∷ split b (drop (suc (index_of b (x ∷ xs))) (x ∷ xs))
-    go true e l ih = rw (e, split)
-    go false e l ih = rw (e, split) (rw (ih (omega (arith, rw e at l))))
+    go true e l ih = rw (e, split, index_of)
+    go false e l ih = rw (e, split, index_of) (rw (ih (omega (arith, rw (e, index_of) at l))))
 
 pub index_last : (b : ℕ) (l : List ℕ) → length l ≤ index_of b l → split b l ≡ l ∷ []
-unfolding index_of index_after split
+unfolding index_of split
 index_last b [] h = refl
 index_last b (x ∷ xs) h = go (eqb x b) refl h (index_last b xs)
   where
     go : (t : Bool) → eqb x b ≡ t → length (x ∷ xs) ≤ index_of b (x ∷ xs) →
         (length xs ≤ index_of b xs → split b xs ≡ xs ∷ []) → split b (x ∷ xs) ≡ (x ∷ xs) ∷ []
-    go true e l ih = absurd (omega (arith, rw e at l))
-    go false e l ih = rw (e, split) (rw (ih (omega (arith, rw e at l))))
+    go true e l ih = absurd (omega (arith, rw (e, index_of) at l))
+    go false e l ih = rw (e, split, index_of) (rw (ih (omega (arith, rw (e, index_of) at l))))
 
 -- there is always a part
 pub split_some : (b : ℕ) (l : List ℕ) → 0 < length (split b l)
@@ -49,7 +48,7 @@ split_some b (x ∷ xs) = go (eqb x b) refl
     go true e = rw (e, split) (omega arith)
     go false e = rw (e, split) (first (split b xs))
 
--- A search for b from a place on answers e: as `bytes::scan::find` does over the whole list.
+-- A search for b from a place on answers e: as `find` does.
 abbrev pub Finds : ℕ → List ℕ → ℕ → ℕ → Type 0
 Finds b l from e = e ≡ from + index_of b (slice from (length l) l)
 
@@ -290,3 +289,19 @@ same_not a b i h k e = rw (drop-cons a i 0 h, drop-cons b i 0 k, ne_eqb (get_or 
 pub same_done : (a b : List ℕ) (i : ℕ) → length a ≤ i → length b ≤ i → same (drop i a) (drop i b) ≡ true
 unfolding same
 same_done a b i h k = rw (drop_of_length-le a h, drop_of_length-le b k)
+
+-- A search finds the byte at the place where it begins, or goes on from the next place.
+pub find_here : (b : ℕ) (l : List ℕ) (i : ℕ) → i < length l → get_or l i 0 ≡ b →
+    index_of b (slice i (length l) l) ≡ 0
+unfolding slice index_of
+find_here b l i h e = rw (take-length l, drop-cons l i 0 h, eq-eqb (get_or l i 0) b e, index_of)
+
+pub find_on : (b : ℕ) (l : List ℕ) (i : ℕ) → i < length l → (get_or l i 0 ≡ b → ⊥) →
+    index_of b (slice i (length l) l) ≡ suc (index_of b (slice (i + 1) (length l) l))
+unfolding slice index_of
+find_on b l i h n = rw (take-length l, drop-cons l i 0 h, ne_eqb (get_or l i 0) b n, index_of, add-one i)
+
+-- and at the end it finds none
+pub find_none : (b : ℕ) (l : List ℕ) (i : ℕ) → length l ≤ i → index_of b (slice i (length l) l) ≡ 0
+unfolding slice index_of
+find_none b l i h = rw (take-length l, drop_of_length-le l h)

@@ -1,6 +1,6 @@
 -- 01, Tables: "Text is lines parted by tabs, each closed by a line feed, the last too". Event lines
 -- and printed answers are parted and closed alike.
-use Rattle.std.specs.Prelude.{ℕ, Bool, true, false, ◌&&◌, List, [], ◌∷◌, ◌++◌, ◌==◌}
+use Rattle.std.specs.Prelude.{ℕ, suc, Bool, true, false, ◌&&◌, List, [], ◌∷◌, ◌++◌, take, drop, ◌==◌}
 
 abbrev pub tab : ℕ
 tab = 9
@@ -36,3 +36,12 @@ same [] [] = true
 same [] (y ∷ ys) = false
 same (x ∷ xs) [] = false
 same (x ∷ xs) (y ∷ ys) = x == y && same xs ys
+
+-- the place of the first byte b of a list, or its length
+unfoldable pub index_of : ℕ → List ℕ → ℕ
+index_of b [] = 0
+index_of b (x ∷ xs) = elim (x == b) [ true ↦ 0 | false ↦ suc (index_of b xs) ]
+
+-- the bytes from one place up to, not including, another
+unfoldable pub slice : ℕ → ℕ → List ℕ → List ℕ
+slice from to l = drop from (take to l)

@@ -7,7 +7,7 @@ pub mod put;
 
 ghost use Rattle.std.specs.Prelude.{◌≡◌, ◌+◌, ◌≤◌, min, length};
 ghost use Rattle.decimal.specs.Number.{read_number};
-ghost use Rattle.decimal.specs.Lines.{same};
+ghost use Rattle.decimal.specs.Lines.{same, index_of, slice};
 ghost use Rattle.decimal.specs.Inner.Fields.{field_end, field_from};
 ghost use Rattle.decimal.specs.Inner.{Digit, DigitsFrom, as_number};
 
@@ -165,4 +165,18 @@ pub fn is_same(a: &[u8], b: &[u8]) -> bool
         }
     }
     true
+}
+
+// Where the first byte b from a place of a text on stands, or its end where there is none.
+pub fn find(text: &[u8], at: usize, b: u8) -> usize
+    requires { at ≤ length text.now }
+    ensures value { result ≡ at + index_of b (slice at (length text.now) text.now) }
+    ensures upper_bound { result ≤ length text.now }
+{
+    for i in at..text.len() {
+        if text[i] == b {
+            return i;
+        }
+    }
+    text.len()
 }

@@ -13,10 +13,9 @@ use native.Mathlib.Numerals.{add-one}
 use lib.ListN.{length, get_or, take, drop, set, length-drop}
 use lib.Seq.{sets, sets-eq, length-sets, take_all, take-length, drop-drop, drop-append_seam}
 use borrow.Author.Tests.{le-leb, lt-leb, leb-false}
-use Rattle.bytes.specs.Bytes.{index_of, index_after, slice}
 use Rattle.laws.specs.Choice.{if◌then◌else◌}
 use Rattle.laws.proofs.Choice.{clash, if_ind, or_false}
-use Rattle.decimal.specs.Lines.{line_feed, to_first, split}
+use Rattle.decimal.specs.Lines.{line_feed, to_first, split, index_of, slice}
 use Rattle.decimal.proofs.Room.{sets_append}
 use Rattle.table.specs.declared.Refusal.TheVariants.{RoomShort}
 use Rattle.text.specs.Standing.{is_nil}
@@ -132,7 +131,7 @@ cut_nothing (suc n) l = refl
 -- no line feed: all of it belongs to the line that is not closed yet
 cut_rest : (n : ℕ) (l bs : List ℕ) → length bs ≤ index_of line_feed bs →
     cutting (suc n) l bs ≡ record { lines = []; left = l ++ bs; eaten = length bs }
-unfolding index_of index_after
+unfolding index_of
 cut_rest n l [] h = cut_nothing (suc n) l ∙ rw (append-nil l)
 cut_rest n l (b ∷ bs) h = go (eqb b line_feed) refl h (cut_rest n (l ++ (b ∷ [])) bs)
   where
@@ -151,7 +150,7 @@ cut_line : (n : ℕ) (l bs : List ℕ) → index_of line_feed bs < length bs →
     cutting (suc n) l bs
     ≡ with_line (event_line (l ++ take (index_of line_feed bs) bs)) (suc (index_of line_feed bs))
     (cutting n [] (drop (suc (index_of line_feed bs)) bs))
-unfolding index_of index_after
+unfolding index_of
 cut_line n l [] h = absurd (omega arith)
 cut_line n l (b ∷ bs) h = go (eqb b line_feed) refl h (cut_line n (l ++ (b ∷ [])) bs)
   where
@@ -192,7 +191,7 @@ cut_few (suc n) l (b ∷ bs) = go (eqb b line_feed) refl (cut_few n [] bs) (cut_
     go true e h k = rw (cut_at n l b bs e) (omega arith)
     go false e h k = rw (cut_on n l b bs e (cutting (suc n) (l ++ (b ∷ [])) bs) refl) k
 
--- As `bytes::scan::find` answers: e is the first line feed from a place on, or the end.
+-- As `decimal::find` answers: e is the first line feed from a place on, or the end.
 abbrev Finds : List ℕ → ℕ → ℕ → Type 0
 Finds l from e = e ≡ from + index_of line_feed (slice from (length l) l)
 

@@ -127,7 +127,7 @@ pub(crate) fn read_fields(text: &[u8], from: usize, shape: &[u8], least: usize) 
         }
         at = f.end.at + 1;
     }
-    let end = bytes::scan::find(text, at, text.len(), LINE_FEED);
+    let end = decimal::find(text, at, LINE_FEED);
     Fields {
         wrong: Found::At(THE_LINE),
         values,

@@ -173,7 +173,7 @@ pub(crate) fn read_word(text: &[u8]) -> WordRead
     let first = decimal::field_end(text, 0);
     let e = first.at;
     let word = leading_word(&text[..e]);
-    let end = bytes::scan::find(text, e, text.len(), LINE_FEED);
+    let end = decimal::find(text, e, LINE_FEED);
     WordRead { word, end }
 }
 

@@ -32,7 +32,7 @@ fn value(field: &[u8]) -> u64 {
 }
 
 pub(crate) fn word_of<'a>(line: &'a [u8]) -> &'a [u8] {
-    let e = bytes::scan::find(line, 0, line.len(), TAB);
+    let e = decimal::find(line, 0, TAB);
     &line[..e]
 }
 
@@ -40,7 +40,7 @@ pub(crate) fn fields_of(line: &[u8]) -> Fields {
     let mut values = [NO_NUMBER; FIELDS];
     let mut at = 0;
     for k in 0..FIELDS {
-        let e = bytes::scan::find(line, at, line.len(), TAB);
+        let e = decimal::find(line, at, TAB);
         values[k] = value(&line[at..e]);
         if e == line.len() {
             return Fields {

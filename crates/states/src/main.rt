@@ -103,7 +103,7 @@ fn take_lines(f: Feed, held: &mut [u8], piece: &[u8]) -> Feed {
     let mut len = f.len;
     let mut at = 0;
     while at < piece.len() {
-        let e = bytes::scan::find(piece, at, piece.len(), decimal::LINE_FEED);
+        let e = decimal::find(piece, at, decimal::LINE_FEED);
         len = decimal::put::put_all(&piece[at..e], held, len);
         if e == piece.len() {
             break;

@@ -2,10 +2,9 @@
 -- it, and what stands before and after that place. Assumes nothing.
 use Rattle.std.proofs.Common.{◌≡◌, ℕ, zero, suc, ◌+◌, ◌-◌, ◌<◌, ◌≤◌, Bool, true, false, eqb, ◌⊎◌, List, [], ◌∷◌, length, get_or, take, drop, sym, refl, ap, ◌∙◌, inl, inr, add-zero, zero-add, add-one, arith, length-drop, drop_of_length-le, length-take, length-take-le, get_or-drop, take_all, drop-cons, drop-drop, ltb-false, ltb-true, lt-ltb, eq-eqb, ne_eqb, eqb-true}
 use lib.Arith.{lt_of_le-ne}
-use Rattle.decimal.specs.Lines.{tab, line_feed, to_first, split}
+use Rattle.decimal.specs.Lines.{tab, line_feed, to_first, split, index_of}
 use Rattle.decimal.specs.Inner.Fields.{first_line, fields_from, first_field, field_end}
 use Rattle.decimal.specs.Number.{is_number}
-use Rattle.bytes.specs.Bytes.{index_of}
 use Rattle.laws.proofs.Choice.{is_false, le_or_lt}
 use Rattle.decimal.proofs.Numbers.{digit_at, number_is_digits}
 use Rattle.decimal.proofs.Lines.{index_cut, index_last, Finds, cut_at, last_at_lem, split_some, split_here, split_on}
