@@ -167,12 +167,15 @@ pub fn is_same(a: &[u8], b: &[u8]) -> bool
     true
 }
 
-// Where the first byte b from a place of a text on stands, or its end where there is none.
+// Where the first byte b from a place of a text on stands, or its end where there is none; past the
+// end, the place itself.
 pub fn find(text: &[u8], at: usize, b: u8) -> usize
-    requires { at ≤ length text.now }
     ensures value { result ≡ at + index_of b (slice at (length text.now) text.now) }
-    ensures upper_bound { result ≤ length text.now }
+    ensures upper_bound { at ≤ length text.now → result ≤ length text.now }
 {
+    if text.len() <= at {
+        return at;
+    }
     for i in at..text.len() {
         if text[i] == b {
             return i;

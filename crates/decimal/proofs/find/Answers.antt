@@ -15,3 +15,6 @@ loop-i-preserved c =
 pub returns-clause-value : goal.returns-clause-value
 returns-clause-value c =
     omega (arith, find_none c.args.b c.args.text.now c.loop-i.i (omega arith))
+
+pub returns-then-text-at-clause-value : goal.returns-then-text-at-clause-value
+returns-then-text-at-clause-value c = omega (arith, find_none c.args.b c.args.text.now c.args.at c.if-text-at.true)
