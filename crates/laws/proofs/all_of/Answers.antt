@@ -1,6 +1,5 @@
 -- `laws::all_of` meets its contract: all hold exactly if none fails. Assumes nothing.
 use mathlib.Core.Path.{sym, ◌∙◌}
-use borrow.Author.Rules.{rules}
 use Rattle.laws.proofs.Search.{failed_some, failed_none}
 use Rattle.laws.proofs.all_of.Goals as goal
 

@@ -1,13 +1,8 @@
 -- `laws::first_failed` meets its contract: each test passed holds, so the first that does not is
 -- told, and past the last there is none. Assumes nothing.
-use Prim.Native.Nat.{ℕ, ◌≤◌, ◌<◌, ◌-◌}
-use mathlib.Core.Path.{◌≡◌}
-use mathlib.Core.Bool.{true, false}
 use native.Mathlib.Omega.{arith}
 use borrow.Author.Rules.{rules}
 use borrow.Author.Count.{below_more}
-use borrow.Author.Tests.{not-true, not-false}
-use lib.ListN.{length, get_or}
 use Rattle.laws.proofs.Search.{fails_first, fails_nowhere}
 use Rattle.laws.proofs.first_failed.Goals as goal
 

@@ -3,12 +3,7 @@
 use Prim.Native.Nat.{ℕ, ◌≤◌, ◌<◌, ◌-◌}
 use mathlib.Core.Path.{◌≡◌}
 use mathlib.Core.Bool.{true, false}
-use native.Mathlib.Omega.{arith}
-use borrow.Author.Rules.{rules}
-use borrow.Author.Count.{below_more}
-use borrow.Author.Tests.{not-true, not-false}
 use lib.ListN.{length, get_or}
-use Rattle.laws.proofs.Search.{fails_first, fails_nowhere}
 use Rattle.laws.proofs.first_failed.Given as goal
 
 abbrev pub invariant-loop-i : goal.invariant-loop-i

@@ -1,14 +1,12 @@
 -- `table::equal_servers` meets its contract: no pair before the one looked at is equal, so the
 -- first equal one is the answer. Assumes nothing.
 use mathlib.Core.Path.{◌≡◌, refl, ◌∙◌}
-use Prim.Native.Nat.{◌+◌, ◌-◌, ◌≤◌, min}
+use Prim.Native.Nat.{min}
 use native.Mathlib.Omega.{arith}
-use borrow.Author.Rules.{rules}
-use lib.ListN.{length, get_or}
-use Rattle.table.specs.declared.Pair.TheVariants.{Differ}
+use lib.ListN.{length}
 use Rattle.table.specs.declared.Server.{Server}
 use Rattle.table.specs.Rows.{no_server}
-use Rattle.table.proofs.Pairs.{Sought, sought_none, sought_next, sought_row, none_in_use, first_in_use}
+use Rattle.table.proofs.Pairs.{sought_none, sought_next, sought_row, none_in_use, first_in_use}
 use Rattle.table.proofs.equal_servers.Goals as goal
 use Rattle.table.proofs.equal_servers.Goals.{After-in_use-n}
 

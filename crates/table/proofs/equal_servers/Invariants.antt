@@ -1,14 +1,11 @@
 -- `table::equal_servers` meets its contract: no pair before the one looked at is equal, so the
 -- first equal one is the answer. Assumes nothing.
-use mathlib.Core.Path.{◌≡◌, refl, ◌∙◌}
-use Prim.Native.Nat.{◌+◌, ◌-◌, ◌≤◌, min}
-use native.Mathlib.Omega.{arith}
-use borrow.Author.Rules.{rules}
-use lib.ListN.{length, get_or}
+use mathlib.Core.Path.{◌≡◌}
+use Prim.Native.Nat.{◌+◌, ◌-◌, ◌≤◌}
+use lib.ListN.{get_or}
 use Rattle.table.specs.declared.Pair.TheVariants.{Differ}
-use Rattle.table.specs.declared.Server.{Server}
 use Rattle.table.specs.Rows.{no_server}
-use Rattle.table.proofs.Pairs.{Sought, sought_none, sought_next, sought_row, none_in_use, first_in_use}
+use Rattle.table.proofs.Pairs.{Sought}
 use Rattle.table.proofs.equal_servers.Given as goal
 
 abbrev pub invariant-loop-j : goal.invariant-loop-j

@@ -1,5 +1,4 @@
 -- `table::largest_of` meets its contract. Assumes nothing.
-use borrow.Author.Rules.{rules}
 use Rattle.table.proofs.largest_of.Goals as goal
 
 pub returns : goal.returns

@@ -1,6 +1,5 @@
 -- `table::number_of` meets its contract: each case has its number by the definition. Assumes
 -- nothing.
-use borrow.Author.Rules.{rules}
 use Rattle.table.proofs.number_of.Goals as goal
 
 pub returns-in-Malformed : goal.returns-in-Malformed

@@ -2,7 +2,6 @@
 -- Assumes nothing.
 use mathlib.Core.Path.{◌∙◌}
 use Rattle.table.specs.Rules.{server_keeps}
-use borrow.Author.Rules.{rules}
 use Rattle.table.proofs.server_keeps.Goals as goal
 
 pub returns : goal.returns

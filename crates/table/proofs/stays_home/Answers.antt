@@ -1,5 +1,4 @@
 -- `table::stays_home` meets its contract, by the home's kind. Assumes nothing.
-use borrow.Author.Rules.{rules}
 use Rattle.table.proofs.stays_home.Goals as goal
 
 pub returns-in-Timed : goal.returns-in-Timed

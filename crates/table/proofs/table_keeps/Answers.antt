@@ -2,9 +2,6 @@
 -- lent is that of the rules. Assumes nothing.
 use mathlib.Core.Path.{◌≡◌, sym, ◌∙◌}
 use mathlib.Core.Bool.{true}
-use lib.ListN.{length-map}
-use borrow.Author.Rules.{rules}
-use borrow.Author.Tests.{not-true, not-false}
 use Rattle.laws.specs.Choice.{within}
 use Rattle.laws.proofs.Choice.{within_high}
 use Rattle.table.proofs.Inner.{servers_count, tasks_count, table_tests}

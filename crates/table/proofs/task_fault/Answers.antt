@@ -3,7 +3,6 @@
 use mathlib.Core.Path.{◌∙◌}
 use Prim.Native.Nat.{◌<◌}
 use native.Mathlib.Omega.{arith}
-use borrow.Author.Rules.{rules}
 use Rattle.table.proofs.Rules.{place_below, rows_read}
 use Rattle.table.proofs.task_fault.Goals as goal
 use Rattle.table.proofs.task_fault.Goals.{After-row_in-i, After-row_in-j}

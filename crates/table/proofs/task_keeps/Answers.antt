@@ -1,7 +1,6 @@
 -- `table::task_keeps` meets its contract: the list lent is the list of the rule, test for test.
 -- Assumes nothing.
 use Rattle.table.specs.Rules.{task_keeps}
-use borrow.Author.Rules.{rules}
 use Rattle.table.proofs.task_keeps.Goals as goal
 
 pub returns : goal.returns

@@ -1,7 +1,5 @@
 -- `table::task_stands` meets its contract: the row's own numbers decide first. Assumes nothing.
 use mathlib.Core.Path.{sym, ap, ◌∙◌}
-use borrow.Author.Rules.{rules}
-use borrow.Author.Tests.{not-true, not-false}
 use Rattle.table.specs.Refusals.{is_kept}
 use Rattle.table.specs.Rules.{task_stands}
 use Rattle.table.proofs.task_stands.Goals as goal

@@ -1,13 +1,8 @@
 -- `table::tasks_keep` meets its contract: each row passed keeps the rules, so the first that does
 -- not decides. Assumes nothing.
 use mathlib.Core.Path.{◌≡◌, sym, ◌∙◌}
-use mathlib.Core.Bool.{true}
-use Prim.Native.Nat.{◌-◌, ◌≤◌}
 use native.Mathlib.Omega.{arith}
-use borrow.Author.Rules.{rules}
-use borrow.Author.Tests.{not-true, not-false}
 use Rattle.laws.proofs.Rows.{all_none, all_more, all_fails}
-use Rattle.table.specs.Inner.{tasks_keep}
 use Rattle.table.proofs.tasks_keep.Goals as goal
 
 pub loop-i-init : goal.loop-i-init
