@@ -3,6 +3,7 @@
 -- take at most what they ask of R ticks, which is R - C, so that of any R ticks in a row C are
 -- left. In the prefix form, which is proved first: after x ticks at most R - x of the C are
 -- missing. Nothing here says that a tick is taken by one row only. Assumes nothing.
+use Rattle.std.specs.Prelude.{if◌then◌else◌}
 use mathlib.Core.Path.{◌≡◌, refl}
 use mathlib.Core.Bool.{Bool, true, false}
 use mathlib.Core.Logic.{inl, inr}
@@ -11,7 +12,6 @@ use native.Mathlib.Omega.{arith}
 use native.Mathlib.Nat.{mul-le-mul_right}
 use lib.Dec.{ltb}
 use borrow.Author.Tests.{ltb-true, ltb-false}
-use Rattle.laws.specs.Choice.{if◌then◌else◌}
 use Rattle.laws.specs.Rows.{sum_below}
 use Rattle.laws.specs.RoundUp.{up}
 use Rattle.laws.proofs.Choice.{le_or_lt, true_or_false}

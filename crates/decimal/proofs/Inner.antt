@@ -1,10 +1,11 @@
 -- Digits in a row, one more at a time, and what they say of the field in which they stand: it is a
 -- number if nothing stands after them and they lead well. Assumes nothing.
 pub mod Fields
+use Rattle.std.specs.Prelude.{if◌then◌else◌}
 use Rattle.std.proofs.Common.{◌≡◌, ℕ, zero, suc, ◌+◌, ◌-◌, ◌*◌, ◌%◌, ◌^◌, ◌<◌, ◌≤◌, min, Bool, true, false, List, [], ◌∷◌, ◌++◌, length, get_or, take, drop, sym, refl, ap, ◌∙◌, inl, inr, add-zero, mul-le-mul_right, pow-suc, arith, lit<, length-drop, drop_of_length-le, length-take, length-take-le, get_or-drop, get_or-take, take-suc, ne_eqb}
 use native.Mathlib.Nat.{pow-zero, pow-le-pow_right}
 use lib.Arith.{lt_of_le-ne}
-use Rattle.laws.specs.Choice.{if◌then◌else◌, within, every}
+use Rattle.laws.specs.Choice.{within, every}
 use Rattle.laws.proofs.Choice.{clash, and_left, and_right, within_low, within_high, is_within, le_or_lt, is_false}
 use Rattle.decimal.specs.declared.Number.{Number}
 use Rattle.decimal.specs.declared.Number.TheVariants.{Value, Bad}

@@ -1,8 +1,8 @@
 -- Only contracts of inner functions cite this file; a buyer need not read it. It says what one walk
 -- over the digits at a place of a text finds.
 pub mod Fields
-use Rattle.std.specs.Prelude.{◌≡◌, ℕ, ◌+◌, ◌-◌, ◌<◌, ◌≤◌, true, false, not, ◌||◌, List, take, drop, ◌==◌, slice_index}
-use Rattle.laws.specs.Choice.{if◌then◌else◌, within}
+use Rattle.std.specs.Prelude.{◌≡◌, ℕ, ◌+◌, ◌-◌, ◌<◌, ◌≤◌, true, false, not, ◌||◌, List, take, drop, ◌==◌, slice_index, if◌then◌else◌}
+use Rattle.laws.specs.Choice.{within}
 use Rattle.decimal.specs.declared.Number.{Number}
 use Rattle.decimal.specs.declared.Number.TheVariants.{Value, Bad}
 use Rattle.decimal.specs.declared.Digits.{Digits}

@@ -1,7 +1,7 @@
 -- 01, Tables: "Numbers are decimal, 1 to 11 digits, no sign, no leading zero but in `0`." The form and the worth of a number are
 -- two definitions. Bytes are numbers: `0` is 48, `9` is 57.
-use Rattle.std.specs.Prelude.{ℕ, zero, suc, ◌+◌, ◌-◌, ◌*◌, ◌/◌, ◌%◌, Bool, true, false, not, ◌&&◌, ◌||◌, List, [], ◌∷◌, ◌++◌, length, ◌==◌, nat_lt, slice_index}
-use Rattle.laws.specs.Choice.{if◌then◌else◌, every, within}
+use Rattle.std.specs.Prelude.{ℕ, zero, suc, ◌+◌, ◌-◌, ◌*◌, ◌/◌, ◌%◌, Bool, true, false, not, ◌&&◌, ◌||◌, List, [], ◌∷◌, ◌++◌, length, ◌==◌, nat_lt, slice_index, if◌then◌else◌}
+use Rattle.laws.specs.Choice.{every, within}
 use Rattle.decimal.specs.declared.Number.{Number}
 use Rattle.decimal.specs.declared.Number.TheVariants.{Value, Bad}
 

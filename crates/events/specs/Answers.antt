@@ -1,7 +1,6 @@
 -- What an answer says: the paper's number for each case, and what it tells of servers and jobs. The
 -- promises count with these.
-use Rattle.std.specs.Prelude.{ℕ, eqb}
-use Rattle.laws.specs.Choice.{if◌then◌else◌}
+use Rattle.std.specs.Prelude.{ℕ, eqb, if◌then◌else◌}
 use Rattle.table.specs.Refusals.{number_of}
 use Rattle.events.specs.declared.Turn.{Turn}
 use Rattle.events.specs.declared.Turn.TheVariants.{Run as Ran, Empty, Idle}

@@ -1,9 +1,8 @@
 -- Event lines and what is told to them, as plain numbers: "a definition gives this paper's number
 -- and values for each of its cases." A line is two numbers, and what is told to it nine, so that
 -- many can be lent at once.
-use Rattle.std.specs.Prelude.{Bool, not, List, [], ◌∷◌, ◌++◌, ℕ, zero, suc, ◌+◌, leb, eqb, length, get_or}
+use Rattle.std.specs.Prelude.{Bool, not, List, [], ◌∷◌, ◌++◌, ℕ, zero, suc, ◌+◌, leb, eqb, length, get_or, if◌then◌else◌}
 use Rattle.std.proofs.Math.Seq.{paste}
-use Rattle.laws.specs.Choice.{if◌then◌else◌}
 use Rattle.table.specs.Rows.{mode_value, mode_said}
 use Rattle.table.specs.Refusals.{number_of}
 use Rattle.events.specs.declared.Turn.{Turn}

@@ -1,9 +1,8 @@
 -- What the contracts of this crate say of a program's words, of reading and of writing. What the
 -- operating system answers is not known, so each says what is made of it, whatever it is. Assumes
 -- nothing.
-use Rattle.std.specs.Prelude.{ℕ, zero, suc, ◌≤◌, ◌<◌, ◌≡◌, Bool, false, ◌&&◌, List, eqb, ℤ, pos, negsuc}
+use Rattle.std.specs.Prelude.{ℕ, zero, suc, ◌≤◌, ◌<◌, ◌≡◌, Bool, false, ◌&&◌, List, eqb, ℤ, pos, negsuc, if◌then◌else◌}
 use Rattle.io.specs.Counts.{clamp_len}
-use Rattle.laws.specs.Choice.{if◌then◌else◌}
 use Rattle.laws.specs.Quoted.{bytes}
 use Rattle.decimal.specs.Lines.{same}
 use Rattle.files.specs.declared.Taken.{Taken}

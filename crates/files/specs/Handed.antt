@@ -1,7 +1,6 @@
 -- What is given by a table file: by how it was read and, where it was, what the reader says of its
 -- text.
-use Rattle.std.specs.Prelude.{ℕ, ◌≤◌, ◌≡◌, Bool, true, false, List, length}
-use Rattle.laws.specs.Choice.{if◌then◌else◌}
+use Rattle.std.specs.Prelude.{ℕ, ◌≤◌, ◌≡◌, Bool, true, false, List, length, if◌then◌else◌}
 use Rattle.table.specs.Rows.{no_table}
 use Rattle.text.specs.declared.Reading.{Reading}
 use Rattle.text.specs.declared.Reading.TheVariants.{Taken, Refused, Equal}

@@ -1,8 +1,8 @@
 -- 02, No. 6: what one tick of a frame box does. "Tick t has slot t mod 1,200", and the slot's partition
 -- has the tick, whatever waits. What it does to the queues is crate queues'.
-use Rattle.std.specs.Prelude.{Bool, true, false, not, ◌||◌, ℕ, ◌+◌, ltb, eqb}
+use Rattle.std.specs.Prelude.{Bool, true, false, not, ◌||◌, ℕ, ◌+◌, ltb, eqb, if◌then◌else◌}
 use Rattle.laws.specs.declared.Found.{Found}
-use Rattle.laws.specs.Choice.{if◌then◌else◌, unless◌say◌else◌}
+use Rattle.laws.specs.Choice.{unless◌say◌else◌}
 use Rattle.table.specs.declared.Mode.TheVariants.{N}
 use Rattle.table.specs.declared.Refusal.TheVariants.{NoJobRan, CountSpent, Unsound}
 use Rattle.slots.specs.Frame.{owner_at}

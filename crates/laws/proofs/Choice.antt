@@ -1,4 +1,5 @@
 -- Laws of choices by a test and of lists of tests. Assumes nothing.
+use Rattle.std.specs.Prelude.{if◌then◌else◌}
 use mathlib.Core.Path.{◌≡◌, refl, sym, subst, ◌∙◌}
 use mathlib.Core.Bool.{Bool, true, false, ◌&&◌, ◌||◌}
 use mathlib.Core.List.{List, [], ◌∷◌}
@@ -8,7 +9,7 @@ use native.Mathlib.Omega.{arith}
 use lib.Dec.{T, leb, ltb}
 use lib.ListN.{length, get_or}
 use borrow.Author.Tests.{leb-true, le-leb, ltb-true, ltb-false}
-use Rattle.laws.specs.Choice.{if◌then◌else◌, every, within, larger}
+use Rattle.laws.specs.Choice.{every, within, larger}
 
 pub clash : (b : Bool) → b ≡ true → b ≡ false → ⊥
 clash b p q = subst T (sym p ∙ q) tt

@@ -1,12 +1,7 @@
 -- Choosing by a test, and lists of tests. Tests are Bool: `ltb`, `leb`, `eqb` of lib.Dec, `not`,
 -- `◌&&◌`, `◌||◌` of mathlib.Core.Bool.
 use mathlib.Core.Bool.{Bool, true, false, ◌&&◌}
-use Rattle.std.specs.Prelude.{List, [], ◌∷◌, ℕ, leb, ltb}
-
-infixr 5 if◌then◌else◌
-abbrev pub if◌then◌else◌ : {A : Type 0} → Bool → A → A → A
-if◌then◌else◌ true a b = a
-if◌then◌else◌ false a b = b
+use Rattle.std.specs.Prelude.{List, [], ◌∷◌, ℕ, leb, ltb, if◌then◌else◌}
 
 -- `m` unless the test holds.
 infixr 5 unless◌say◌else◌

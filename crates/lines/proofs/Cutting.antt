@@ -1,6 +1,7 @@
 -- An event file may be cut anywhere: its lines are the same. A line is closed at the first line
 -- feed, so the loop that looks for line feeds finds what the definition says byte by byte. Assumes
 -- nothing.
+use Rattle.std.specs.Prelude.{if◌then◌else◌}
 use mathlib.Core.Path.{◌≡◌, refl, sym, ap, ◌∙◌}
 use mathlib.Core.Bool.{Bool, true, false, ◌||◌}
 use mathlib.Core.List.{List, [], ◌∷◌, ◌++◌, append_assoc, append-nil}
@@ -13,7 +14,6 @@ use native.Mathlib.Numerals.{add-one}
 use lib.ListN.{length, get_or, take, drop, set, length-drop}
 use lib.Seq.{sets, sets-eq, length-sets, take_all, take-length, drop-drop, drop-append_seam}
 use borrow.Author.Tests.{le-leb, lt-leb, leb-false}
-use Rattle.laws.specs.Choice.{if◌then◌else◌}
 use Rattle.laws.proofs.Choice.{clash, if_ind, or_false}
 use Rattle.decimal.specs.Lines.{line_feed, to_first, split, index_of, slice}
 use Rattle.decimal.proofs.Room.{sets_append}

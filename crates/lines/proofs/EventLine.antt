@@ -1,6 +1,7 @@
 -- What a line says, from its bytes. An event line is a letter, a tab and a number, which has no tab
 -- and at most 11 digits. So a line that is not of this form, or is longer than the longest, is
 -- another line. Assumes nothing.
+use Rattle.std.specs.Prelude.{if◌then◌else◌}
 use mathlib.Core.Path.{◌≡◌, refl, sym, ap, ◌∙◌}
 use mathlib.Core.Bool.{Bool, true, false}
 use mathlib.Core.List.{List, [], ◌∷◌}
@@ -10,7 +11,7 @@ use native.Mathlib.Omega.{arith}
 use lib.Dec.{eqb}
 use lib.ListN.{length, get_or, drop}
 use borrow.Author.Tests.{le-leb, lt-leb, eqb-true}
-use Rattle.laws.specs.Choice.{if◌then◌else◌, every}
+use Rattle.laws.specs.Choice.{every}
 use Rattle.laws.proofs.Choice.{clash, is_false, every_at}
 use Rattle.decimal.specs.declared.Number.TheVariants.{Value, Bad}
 use Rattle.decimal.specs.Number.{is_number, worth, read_number}

@@ -1,5 +1,6 @@
 -- An event file piece by piece, answered by any box: what stands after each batch of a piece, and
 -- that the pieces of a file together are answered as the whole file is. Assumes nothing.
+use Rattle.std.specs.Prelude.{if◌then◌else◌}
 use mathlib.Core.Path.{◌≡◌, refl, sym, ap, subst, ◌∙◌}
 use mathlib.Core.Bool.{true, false}
 use mathlib.Core.List.{List, [], ◌∷◌, ◌++◌, append-nil, append_assoc}
@@ -9,7 +10,6 @@ use lib.Dec.{eqb}
 use lib.ListN.{length, take, drop, length-append, length-drop}
 use lib.Seq.{length-take-le, take_all, take-add, take-append-le, take-append-add}
 use borrow.Author.Tests.{le-leb}
-use Rattle.laws.specs.Choice.{if◌then◌else◌}
 use Rattle.laws.proofs.Choice.{if_ind}
 use Rattle.decimal.specs.Lines.{line_feed, closed}
 use Rattle.text.specs.declared.Reading.{Reading}

@@ -1,5 +1,6 @@
 -- Answer lines one after the other: the text of one line more, and what is handed back. Assumes
 -- nothing.
+use Rattle.std.specs.Prelude.{if◌then◌else◌}
 use mathlib.Core.Path.{◌≡◌, refl, sym, ap, ◌∙◌}
 use mathlib.Core.Bool.{Bool, true, false, ◌||◌}
 use mathlib.Core.List.{List, ◌++◌, append_assoc, append-nil}
@@ -10,7 +11,6 @@ use lib.Dec.{leb, eqb}
 use lib.ListN.{length, get_or, drop}
 use lib.Seq.{get_or-drop, drop-drop, drop-append_seam}
 use borrow.Author.Tests.{le-leb, lt-leb, leb-false, ne_eqb, eqb-false}
-use Rattle.laws.specs.Choice.{if◌then◌else◌}
 use Rattle.laws.proofs.Choice.{if_ind, or_false}
 use Rattle.table.specs.declared.Refusal.TheVariants.{RoomShort}
 use Rattle.events.specs.declared.Taking.TheVariants.{Taken, Refused}

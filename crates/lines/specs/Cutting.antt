@@ -1,8 +1,8 @@
 -- An event file cut into its lines, byte by byte, so that the cutting of the file into pieces
 -- cannot show: a line feed closes the line that is not closed yet, any other byte belongs to it.
-use Rattle.std.specs.Prelude.{◌||◌, List, [], ◌∷◌, ◌++◌, ℕ, zero, suc, ◌/◌, leb, eqb, length, take}
+use Rattle.std.specs.Prelude.{◌||◌, List, [], ◌∷◌, ◌++◌, ℕ, zero, suc, ◌/◌, leb, eqb, length, take, if◌then◌else◌}
 use Rattle.std.proofs.lemmas.List.Edits.{sets}
-use Rattle.laws.specs.Choice.{if◌then◌else◌, unless◌say◌else◌}
+use Rattle.laws.specs.Choice.{unless◌say◌else◌}
 use Rattle.decimal.specs.Lines.{line_feed}
 use Rattle.table.specs.declared.Refusal.TheVariants.{RoomShort}
 use Rattle.text.specs.Standing.{is_nil}

@@ -1,7 +1,7 @@
 -- 01, One night in full: "Event lines are `R⇥task` and `T⇥mark`, numbers as in tables; another
 -- line, a mark above 1 included, or an unclosed last one, answers `?⇥no⇥1`."
-use Rattle.std.specs.Prelude.{Bool, List, [], ◌∷◌, ℕ, leb, eqb, length, get_or}
-use Rattle.laws.specs.Choice.{if◌then◌else◌, every}
+use Rattle.std.specs.Prelude.{Bool, List, [], ◌∷◌, ℕ, leb, eqb, length, get_or, if◌then◌else◌}
+use Rattle.laws.specs.Choice.{every}
 use Rattle.decimal.specs.Number.{is_number, worth}
 use Rattle.decimal.specs.Lines.{tab, line_feed, split, same}
 use Rattle.events.specs.declared.Event.TheVariants.{Release, Tick}

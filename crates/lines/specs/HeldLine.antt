@@ -1,7 +1,6 @@
 -- The line of an event file that is not closed yet, as it is held between two pieces: its bytes
 -- while it may still be an event line, and else only that it is too long.
-use Rattle.std.specs.Prelude.{List, ◌++◌, ℕ, suc, ◌-◌, leb, length, take, replicate}
-use Rattle.laws.specs.Choice.{if◌then◌else◌}
+use Rattle.std.specs.Prelude.{List, ◌++◌, ℕ, suc, ◌-◌, leb, length, take, replicate, if◌then◌else◌}
 use Rattle.lines.specs.declared.Held.{Held}
 
 -- `R⇥task` is the longest event line: a letter, a tab and 11 digits.

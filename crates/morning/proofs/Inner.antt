@@ -2,6 +2,7 @@
 -- by induction over the ticks; for the longest row, it is the best of the rows that were met on the
 -- way. And each tick that a sound run takes fits the table's rows: who is charged is able, who left
 -- was the last-run job, and priorities are at least 1. Assumes nothing.
+use Rattle.std.specs.Prelude.{if◌then◌else◌}
 use mathlib.Core.Path.{◌≡◌, refl, ap, sym, subst, ◌∙◌}
 use mathlib.Core.Bool.{Bool, true, false}
 use mathlib.Core.List.{List, [], ◌∷◌, ◌++◌}
@@ -12,7 +13,7 @@ use lib.ListN.{length, get_or, replicate, length-replicate, get_or-replicate}
 use borrow.Author.Tests.{lt-ltb}
 use Rattle.laws.specs.declared.Found.{Found}
 use Rattle.laws.specs.declared.Found.TheVariants.{At, Nothing}
-use Rattle.laws.specs.Choice.{if◌then◌else◌, larger}
+use Rattle.laws.specs.Choice.{larger}
 use Rattle.laws.proofs.Choice.{if_ind, larger_left, larger_right}
 use Rattle.laws.proofs.Rows.{any_at, none_build}
 use Rattle.laws.proofs.Highest.{highest_at, highest_none}

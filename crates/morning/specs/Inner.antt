@@ -1,7 +1,6 @@
 -- Only contracts of inner functions cite this file; a buyer need not read it. The numbers of some
 -- taken ticks as they are counted one tick after the other, and how they stand in arrays.
-use Rattle.std.specs.Prelude.{◌≡◌, Bool, List, [], ◌∷◌, ℕ, suc, ◌+◌, ◌*◌, ◌≤◌, ◌<◌, ltb, length, get_or}
-use Rattle.laws.specs.Choice.{if◌then◌else◌}
+use Rattle.std.specs.Prelude.{◌≡◌, Bool, List, [], ◌∷◌, ℕ, suc, ◌+◌, ◌*◌, ◌≤◌, ◌<◌, ltb, length, get_or, if◌then◌else◌}
 use Rattle.laws.specs.Rows.{sum_below}
 use Rattle.table.specs.declared.Mode.{Mode}
 use Rattle.table.specs.declared.Table.{Table}

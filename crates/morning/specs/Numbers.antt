@@ -1,8 +1,8 @@
 -- 02, No. 1, A morning report: what each number of the page is. "All are whole numbers, counted from
 -- the run's answers and, for waiting and each task's discards, from the queues as steps 5 and 2 find
 -- them; refused lines count nowhere."
-use Rattle.std.specs.Prelude.{Bool, ◌&&◌, List, [], ◌∷◌, ℕ, suc, eqb}
-use Rattle.laws.specs.Choice.{if◌then◌else◌, larger}
+use Rattle.std.specs.Prelude.{Bool, ◌&&◌, List, [], ◌∷◌, ℕ, suc, eqb, if◌then◌else◌}
+use Rattle.laws.specs.Choice.{larger}
 use Rattle.table.specs.declared.Mode.{Mode}
 use Rattle.table.specs.declared.Table.{Table}
 use Rattle.run.specs.declared.Run.{Run}

@@ -1,6 +1,7 @@
 -- What is told of a line, by number and field. A standing makes one test after the other, and each
 -- is a question of the page, in the same order and at the same field: so the first test that fails
 -- is the first question that does not hold. Assumes nothing.
+use Rattle.std.specs.Prelude.{if◌then◌else◌}
 use mathlib.Core.Path.{◌≡◌, refl, sym, ap, ◌∙◌}
 use mathlib.Core.Bool.{Bool, true, false, not, ◌&&◌, ◌||◌}
 use mathlib.Core.List.{List, [], ◌∷◌, ◌++◌}
@@ -14,7 +15,7 @@ use lib.ListN.{length, get_or}
 use borrow.Author.Tests.{eqb-true, eq-eqb, lt-ltb, le-ltb}
 use Rattle.laws.specs.declared.Found.{Found}
 use Rattle.laws.specs.declared.Found.TheVariants.{At, Nothing}
-use Rattle.laws.specs.Choice.{if◌then◌else◌, unless◌say◌else◌, within}
+use Rattle.laws.specs.Choice.{unless◌say◌else◌, within}
 use Rattle.laws.specs.Search.{first_failed}
 use Rattle.laws.proofs.Choice.{clash, true_or_false, and_left, and_right, or_true_left}
 use Rattle.laws.proofs.Choice.{or_true_right, or_cases}

@@ -1,5 +1,6 @@
 -- A taken tick goes by the rules of specs/Condition2.antt: each step of the definition is read off
 -- its laws, and what step 5 chooses is the highest of those that are able. Assumes nothing.
+use Rattle.std.specs.Prelude.{if◌then◌else◌}
 use mathlib.Core.Path.{◌≡◌, refl, ap, sym, ◌∙◌}
 use mathlib.Core.Bool.{Bool, true, false}
 use mathlib.Core.Logic.{◌⊎◌, inl, inr, ◌↔◌}
@@ -8,7 +9,6 @@ use native.Mathlib.Omega.{arith}
 use lib.Dec.{eqb}
 use borrow.Author.Tests.{leb-true, le-leb, eqb-true, eqb-false, eq-eqb, ne_eqb, ltb-true, ltb-false, lt-ltb}
 use Rattle.laws.specs.declared.Found.TheVariants.{At, Nothing}
-use Rattle.laws.specs.Choice.{if◌then◌else◌}
 use Rattle.laws.proofs.Choice.{clash, is_false, if_ind, true_or_false, and_left, and_right, and_true}
 use Rattle.laws.specs.Rows.{any_below}
 use Rattle.laws.proofs.Rows.{any_at, any_none, any_found}

@@ -1,5 +1,6 @@
 -- What is answered rests on the rows in use alone: so does each test of an event, and what a tick
 -- does is settled by its rules. Assumes nothing.
+use Rattle.std.specs.Prelude.{if◌then◌else◌}
 use mathlib.Core.Path.{fun_ext, ◌≡◌, refl, ap, ap₂, sym, ◌∙◌}
 use mathlib.Core.Bool.{Bool, true, not, ◌&&◌, ◌||◌}
 use mathlib.Core.List.{List, [], ◌∷◌}
@@ -9,7 +10,7 @@ use native.Mathlib.Omega.{arith}
 use lib.Dec.{leb, ltb, eqb}
 use borrow.Author.Tests.{ltb-true, le-ltb, lt-ltb}
 use Rattle.laws.specs.declared.Found.TheVariants.{At}
-use Rattle.laws.specs.Choice.{if◌then◌else◌, every, within}
+use Rattle.laws.specs.Choice.{every, within}
 use Rattle.laws.specs.Search.{least}
 use Rattle.laws.specs.Rows.{all_below, sum_below}
 use Rattle.laws.proofs.Choice.{le_or_lt}

@@ -1,6 +1,7 @@
 -- Nothing but number 4 and the field moved: each line says what it said, its number is the old one,
 -- 41 to 45 being 4, and its row is the same; so line by line the text is told as before. A test
 -- that asks nothing of a field changes nothing where every test is asked. Assumes nothing.
+use Rattle.std.specs.Prelude.{if◌then◌else◌}
 use mathlib.Core.Path.{◌≡◌, refl}
 use mathlib.Core.Bool.{Bool, true, false, not, ◌&&◌, and_assoc}
 use mathlib.Core.List.{List, [], ◌∷◌}
@@ -11,7 +12,7 @@ use lib.ListN.{length}
 use borrow.Author.Tests.{ne_eqb}
 use Rattle.laws.specs.declared.Found.{Found}
 use Rattle.laws.specs.declared.Found.TheVariants.{At, Nothing}
-use Rattle.laws.specs.Choice.{if◌then◌else◌, unless◌say◌else◌, every, within}
+use Rattle.laws.specs.Choice.{unless◌say◌else◌, every, within}
 use Rattle.laws.specs.Search.{first_failed, is_found}
 use Rattle.laws.proofs.Choice.{if_ind}
 use Rattle.laws.proofs.Search.{all_hold}

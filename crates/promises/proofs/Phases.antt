@@ -1,6 +1,7 @@
 -- Servers that start late: what specs/Phases.antt states, proved. Before its phase a server has no
 -- capacity in force, so it is not able; a verdict reads no phase; and with all phases 0 each test that
 -- looks at one is passed. Assumes nothing.
+use Rattle.std.specs.Prelude.{if◌then◌else◌}
 use mathlib.Core.Path.{fun_ext, ◌≡◌, refl, ap, ap₂, sym, subst, ◌∙◌}
 use mathlib.Core.Bool.{Bool, true, false, ◌&&◌}
 use mathlib.Core.List.{List, [], ◌∷◌, ◌++◌}
@@ -13,7 +14,7 @@ use lib.Seq.{get_or-drop, get_or-take}
 use borrow.Author.Tests.{le-leb, lt-leb, lt-ltb, eqb-true}
 use Rattle.laws.specs.declared.Found.{Found}
 use Rattle.laws.specs.declared.Found.TheVariants.{At}
-use Rattle.laws.specs.Choice.{if◌then◌else◌, unless◌say◌else◌, every, within}
+use Rattle.laws.specs.Choice.{unless◌say◌else◌, every, within}
 use Rattle.laws.specs.Search.{least}
 use Rattle.laws.specs.Rows.{listed}
 use Rattle.laws.proofs.Choice.{within_low}

@@ -1,5 +1,6 @@
 -- The reader's cases: each gives its number, its line and its field, for 5 both lines, and every
 -- text is in one of them, so each is given exactly in its case. Assumes nothing.
+use Rattle.std.specs.Prelude.{if◌then◌else◌}
 use mathlib.Core.Path.{◌≡◌, refl, sym, ap, subst, ◌∙◌}
 use mathlib.Core.Bool.{Bool, true, false}
 use mathlib.Core.List.{List, [], ◌∷◌, ◌++◌, map}
@@ -9,7 +10,6 @@ use native.Mathlib.Omega.{arith}
 use lib.ListN.{length, get_or, take, get_or-map}
 use lib.Seq.{take-suc, take_all}
 use borrow.Author.Tests.{le-leb, lt-leb}
-use Rattle.laws.specs.Choice.{if◌then◌else◌}
 use Rattle.laws.proofs.Choice.{le_or_lt}
 use Rattle.decimal.specs.Lines.{line_feed, split}
 use Rattle.decimal.proofs.Lines.{split_some}

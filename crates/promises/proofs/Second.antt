@@ -2,6 +2,7 @@
 -- has spent its capacity, a row with its budget left takes each tick that no row above takes, and
 -- the rows above ask what the verdict's interference says. So the response that crate bounds shows
 -- for functions of time is kept by the taken ticks. Assumes nothing.
+use Rattle.std.specs.Prelude.{if◌then◌else◌}
 use mathlib.Core.Path.{◌≡◌, refl, sym, ap, ◌∙◌}
 use mathlib.Core.Bool.{Bool, true, false, ◌&&◌, ◌||◌}
 use mathlib.Core.List.{List}
@@ -11,7 +12,6 @@ use native.Mathlib.Omega.{arith}
 use lib.Dec.{ltb, eqb}
 use lib.ListN.{length, drop}
 use borrow.Author.Tests.{leb-true, leb-false, le-leb, ltb-true, lt-ltb, eqb-true}
-use Rattle.laws.specs.Choice.{if◌then◌else◌}
 use Rattle.laws.specs.Rows.{sum_below}
 use Rattle.laws.proofs.Choice.{and_left, and_right, or_cases, le_or_lt, true_or_false}
 use Rattle.laws.proofs.Rows.{sum_cong}

@@ -2,6 +2,7 @@
 -- started afresh where the period is over, and says what step 5 chose. So every server keeps its
 -- account (crate bounds) in the course of any events, from any state whose elapsed counts are
 -- within the periods. Assumes nothing.
+use Rattle.std.specs.Prelude.{if◌then◌else◌}
 use mathlib.Core.Path.{◌≡◌, refl, sym, ap, ◌∙◌}
 use mathlib.Core.Bool.{Bool, true, false}
 use mathlib.Core.List.{List, [], ◌∷◌, ◌++◌}
@@ -13,7 +14,6 @@ use native.Mathlib.Numerals.{add-one}
 use lib.Dec.{eqb}
 use lib.ListN.{length, get_or, replicate}
 use borrow.Author.Tests.{le-leb, lt-leb, eqb-true, eqb-false, eq-eqb, ne_eqb}
-use Rattle.laws.specs.Choice.{if◌then◌else◌}
 use Rattle.laws.proofs.Choice.{if_ind}
 use Rattle.bounds.proofs.Ledger.{Course, Next, goes, refills, Account}
 use Rattle.table.specs.declared.Mode.TheVariants.{N}

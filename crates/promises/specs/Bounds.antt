@@ -1,7 +1,7 @@
 -- Condition 3. The two bounds on what a server is charged, as they were asked for. They speak of
 -- the answers that a run gives and of what step 5 finds. proofs/Bounds.antt proves both.
-use Rattle.std.specs.Prelude.{◌≡◌, Bool, true, false, ◌&&◌, ◌||◌, List, [], ◌∷◌, ◌++◌, map, ℕ, ◌+◌, ◌*◌, ◌-◌, ◌≤◌, ◌<◌, leb, eqb, length, take, drop}
-use Rattle.laws.specs.Choice.{if◌then◌else◌, larger}
+use Rattle.std.specs.Prelude.{◌≡◌, Bool, true, false, ◌&&◌, ◌||◌, List, [], ◌∷◌, ◌++◌, map, ℕ, ◌+◌, ◌*◌, ◌-◌, ◌≤◌, ◌<◌, leb, eqb, length, take, drop, if◌then◌else◌}
+use Rattle.laws.specs.Choice.{larger}
 use Rattle.laws.specs.RoundUp.{up}
 use Rattle.table.specs.declared.Mode.{Mode}
 use Rattle.table.specs.declared.Mode.TheVariants.{N, D1, D2}

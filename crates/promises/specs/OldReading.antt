@@ -5,8 +5,8 @@
 -- the forms so shortened, what is imported for the old reading is what the request left alone. The
 -- phase of No. 7 stands in both readings: it came later, and has no number of its own.
 -- proofs/OldReading.antt proves the statement.
-use Rattle.std.specs.Prelude.{◌≡◌, Bool, true, false, not, ◌&&◌, List, [], ◌∷◌, ◌++◌, ℕ, ◌+◌, ◌*◌, leb, ltb, eqb, length}
-use Rattle.laws.specs.Choice.{if◌then◌else◌, unless◌say◌else◌, every, within}
+use Rattle.std.specs.Prelude.{◌≡◌, Bool, true, false, not, ◌&&◌, List, [], ◌∷◌, ◌++◌, ℕ, ◌+◌, ◌*◌, leb, ltb, eqb, length, if◌then◌else◌}
+use Rattle.laws.specs.Choice.{unless◌say◌else◌, every, within}
 use Rattle.laws.specs.RoundUp.{up}
 use Rattle.decimal.specs.Lines.{tab, line_feed, split, same}
 use Rattle.units.specs.declared.Micros.{Micros}

@@ -1,7 +1,6 @@
 -- Only contracts of the code cite this file; a buyer need not read it. It says what a step makes of
 -- one of the arrays, for any row and any count, also where no step would ask.
-use Rattle.std.specs.Prelude.{List, ℕ, ◌+◌, ◌-◌, ltb, get_or, set}
-use Rattle.laws.specs.Choice.{if◌then◌else◌}
+use Rattle.std.specs.Prelude.{List, ℕ, ◌+◌, ◌-◌, ltb, get_or, set, if◌then◌else◌}
 
 -- what is made of a list at row k, where an array of 64 rows has that row
 abbrev pub at_row : ℕ → List ℕ → List ℕ → List ℕ

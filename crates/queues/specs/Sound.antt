@@ -1,7 +1,7 @@
 -- 01, Numbers for no: "A state is sound (else 13) if ..", the clauses that concern tasks, the last-run
 -- job and the counts. They are the same in every box.
-use Rattle.std.specs.Prelude.{Bool, true, ◌&&◌, ◌||◌, List, [], ◌∷◌, ℕ, leb, ltb, eqb}
-use Rattle.laws.specs.Choice.{if◌then◌else◌, every}
+use Rattle.std.specs.Prelude.{Bool, true, ◌&&◌, ◌||◌, List, [], ◌∷◌, ℕ, leb, ltb, eqb, if◌then◌else◌}
+use Rattle.laws.specs.Choice.{every}
 use Rattle.laws.specs.Rows.{sum_below}
 use Rattle.queues.specs.declared.Last.{Last}
 use Rattle.queues.specs.declared.Last.TheVariants.{NoJob, Job}

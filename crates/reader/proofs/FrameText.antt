@@ -1,6 +1,7 @@
 -- The text of a frame box's table: a line told from its leading word and the one pass over its
 -- fields, how it stands by the count of the rows above it, and the table that holds those rows.
 -- Assumes nothing.
+use Rattle.std.specs.Prelude.{if◌then◌else◌}
 use mathlib.Core.Path.{◌≡◌, refl, sym, ap, subst, ◌∙◌}
 use mathlib.Core.Bool.{Bool, true, false}
 use mathlib.Core.List.{List, [], ◌∷◌}
@@ -12,7 +13,7 @@ use lib.ListN.{length, get_or, take, drop, set, replicate, length-append}
 use lib.Seq.{take-append_seam}
 use borrow.Author.Tests.{ltb-true}
 use Rattle.laws.specs.declared.Found.TheVariants.{At, Nothing}
-use Rattle.laws.specs.Choice.{if◌then◌else◌, every}
+use Rattle.laws.specs.Choice.{every}
 use Rattle.laws.specs.Search.{least, first_failed}
 use Rattle.laws.specs.RoundUp.{up}
 use Rattle.laws.proofs.Choice.{and_left, every_at, within_low, within_high}

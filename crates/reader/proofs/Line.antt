@@ -1,5 +1,6 @@
 -- A line, told from its leading word where it stands and from the one pass over its fields: the
 -- first that is wrong, and where none is what their numbers say. Assumes nothing.
+use Rattle.std.specs.Prelude.{if◌then◌else◌}
 use mathlib.Core.Path.{◌≡◌, refl, sym, ap, ◌∙◌}
 use mathlib.Core.Bool.{Bool, true, false}
 use mathlib.Core.List.{List, [], ◌∷◌, ◌++◌}
@@ -13,7 +14,6 @@ use lib.ListN.{length, get_or, take, drop, length-take, length-append, get_or-ap
 use lib.Seq.{get_or-take, get_or-append_seam, take-take, take-suc, take-append_seam}
 use Rattle.laws.specs.declared.Found.{Found}
 use Rattle.laws.specs.declared.Found.TheVariants.{At, Nothing}
-use Rattle.laws.specs.Choice.{if◌then◌else◌}
 use Rattle.laws.proofs.Choice.{clash, is_false}
 use Rattle.laws.specs.Search.{first_failed}
 use Rattle.laws.proofs.Search.{failed_none}

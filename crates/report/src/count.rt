@@ -2,8 +2,8 @@
 // hands out of it: what is told (crate run's specs/Values.antt) and what steps 5 and 2 found
 // (specs/Found.antt). They stand in three arrays, a column after the other.
 
-ghost use Rattle.std.specs.Prelude.{◌≡◌, not, true, ℕ, ◌+◌, ◌≤◌, ◌<◌, eqb, length, get_or};
-ghost use Rattle.laws.specs.Choice.{if◌then◌else◌, one_if};
+ghost use Rattle.std.specs.Prelude.{◌≡◌, not, true, ℕ, ◌+◌, ◌≤◌, ◌<◌, eqb, length, get_or, if◌then◌else◌};
+ghost use Rattle.laws.specs.Choice.{one_if};
 ghost use Rattle.report.specs.Inner.Count.{turn_counted, left_counted, uncharged, row_after, RowsCounted};
 ghost use Rattle.report.specs.Inner.Count.{DiscardsCounted, SomeTick, CountedTick, SomeTicks, CountedAfter};
 

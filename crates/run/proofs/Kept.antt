@@ -1,6 +1,7 @@
 -- Soundness is kept: a fresh run of a table that keeps the rules is sound, and a release or a tick
 -- that is taken leaves a sound state. So every state that a run hands out may be handed in again.
 -- Assumes nothing.
+use Rattle.std.specs.Prelude.{if◌then◌else◌}
 use mathlib.Core.Path.{◌≡◌, refl, ap, ◌∙◌}
 use mathlib.Core.Bool.{Bool, true, false, not, ◌&&◌}
 use mathlib.Core.List.{List, []}
@@ -10,7 +11,7 @@ use native.Mathlib.Omega.{arith}
 use lib.Dec.{eqb}
 use lib.ListN.{length, get_or-replicate}
 use borrow.Author.Tests.{eqb-false, ltb-true}
-use Rattle.laws.specs.Choice.{if◌then◌else◌, larger}
+use Rattle.laws.specs.Choice.{larger}
 use Rattle.laws.proofs.Choice.{clash, larger_left, larger_right}
 use Rattle.laws.proofs.Rows.{sum_le, sum_zero}
 use Rattle.units.specs.declared.Ticks.{Ticks}

@@ -1,5 +1,6 @@
 -- The slips that document 01 warns of, and others that its reader would ask about, are not
 -- made, each by a few lines from the laws. Assumes nothing.
+use Rattle.std.specs.Prelude.{if◌then◌else◌}
 use mathlib.Core.Path.{◌≡◌, refl, ap, ◌∙◌}
 use mathlib.Core.List.{List}
 use mathlib.Core.Bool.{Bool, true, false}
@@ -8,7 +9,6 @@ use native.Mathlib.Omega.{arith}
 use lib.Dec.{eqb}
 use lib.ListN.{length}
 use borrow.Author.Tests.{eqb-true, eqb-false, eq-eqb, ne_eqb, ltb-true, lt-ltb}
-use Rattle.laws.specs.Choice.{if◌then◌else◌}
 use Rattle.laws.proofs.Choice.{clash, if_ind}
 use Rattle.laws.proofs.Rows.{any_at, any_found}
 use Rattle.table.specs.declared.Level.TheVariants.{MI, HI}

@@ -1,6 +1,7 @@
 -- The tasks' rows through a tick. Steps 1 to 3 only take jobs away, each counted; after them no job
 -- is at its limit, and no LO job waits in D2. Steps 4 to 7 leave the queues alone but for the run
 -- count of the job that runs. Assumes nothing.
+use Rattle.std.specs.Prelude.{if◌then◌else◌}
 use mathlib.Core.Path.{◌≡◌, refl, ap, sym, subst, ◌∙◌}
 use mathlib.Core.Bool.{Bool, true, false, not, ◌&&◌}
 use mathlib.Core.List.{List}
@@ -11,7 +12,6 @@ use lib.Dec.{eqb}
 use lib.ListN.{length, get_or, set}
 use lib.Seq.{get_or-set_same, get_or-set_other}
 use borrow.Author.Tests.{eqb-true, eqb-false, lt-ltb, not-true}
-use Rattle.laws.specs.Choice.{if◌then◌else◌}
 use Rattle.laws.specs.Rows.{sum_below}
 use Rattle.laws.proofs.Choice.{clash, if_ind, true_or_false, and_left, and_right, and_true}
 use Rattle.laws.proofs.Rows.{any_none, sum_zero}

@@ -1,6 +1,7 @@
 -- The laws of one tick, T1 to T6: what it does to a server's counts, who is charged, and whose job
 -- runs. In them z is the state that step 5 finds, `(settle t s mark).state`, and the turn is `choose
 -- t z`. Each is read off the steps and off the law of the highest row. Assumes nothing.
+use Rattle.std.specs.Prelude.{if◌then◌else◌}
 use mathlib.Core.Path.{◌≡◌, refl, ap, sym, ◌∙◌}
 use mathlib.Core.Bool.{Bool, true, false, ◌||◌}
 use mathlib.Core.Logic.{◌⊎◌, inl, inr, ◌↔◌}
@@ -10,7 +11,6 @@ use lib.Dec.{leb, ltb, eqb}
 use borrow.Author.Tests.{leb-false, lt-leb, ltb-true, lt-ltb, eqb-true}
 use Rattle.laws.specs.declared.Found.{Found}
 use Rattle.laws.specs.declared.Found.TheVariants.{At, Nothing}
-use Rattle.laws.specs.Choice.{if◌then◌else◌}
 use Rattle.laws.proofs.Choice.{clash, and_left, and_right, and_true, or_true_left, or_true_right, or_cases, le_or_lt, true_or_false}
 use Rattle.laws.proofs.Rows.{any_found, any_at}
 use Rattle.laws.proofs.Anew.{anew_at}

@@ -1,6 +1,5 @@
 -- A state's counts by row, a state with some of them changed, and a fresh one.
-use Rattle.std.specs.Prelude.{Bool, ◌&&◌, List, ℕ, leb, eqb, get_or, replicate}
-use Rattle.laws.specs.Choice.{if◌then◌else◌}
+use Rattle.std.specs.Prelude.{Bool, ◌&&◌, List, ℕ, leb, eqb, get_or, replicate, if◌then◌else◌}
 use Rattle.laws.specs.Rows.{any_below}
 use Rattle.units.specs.declared.Ticks.{Ticks}
 use Rattle.table.specs.declared.Mode.{Mode}

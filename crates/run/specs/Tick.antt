@@ -1,8 +1,8 @@
 -- 01, What one tick does, step by step.
-use Rattle.std.specs.Prelude.{Bool, true, false, not, ◌&&◌, ◌||◌, ℕ, zero, suc, ◌+◌, ◌-◌, ltb, eqb}
+use Rattle.std.specs.Prelude.{Bool, true, false, not, ◌&&◌, ◌||◌, ℕ, zero, suc, ◌+◌, ◌-◌, ltb, eqb, if◌then◌else◌}
 use Rattle.laws.specs.declared.Found.{Found}
 use Rattle.laws.specs.declared.Found.TheVariants.{At, Nothing}
-use Rattle.laws.specs.Choice.{if◌then◌else◌, unless◌say◌else◌}
+use Rattle.laws.specs.Choice.{unless◌say◌else◌}
 use Rattle.laws.specs.Rows.{sum_below, highest, anew}
 use Rattle.units.specs.declared.Ticks.{Ticks}
 use Rattle.table.specs.declared.Level.{Level}

@@ -1,7 +1,6 @@
 // What steps 5 to 7 of a tick change. (01, What one tick does.)
 
-ghost use Rattle.std.specs.Prelude.{◌≡◌, ◌+◌, ◌≤◌, ◌<◌, leb, get_or, set};
-ghost use Rattle.laws.specs.Choice.{if◌then◌else◌};
+ghost use Rattle.std.specs.Prelude.{◌≡◌, ◌+◌, ◌≤◌, ◌<◌, leb, get_or, set, if◌then◌else◌};
 ghost use Rattle.scheduler.specs.Inner.Steps.{ChargeFits, Charges, RunFits, RunsFront, after_run, Low, Ages, CountsFit, Advances};
 
 use crate::parts::Head;

@@ -1,8 +1,7 @@
 // Steps 5 and 6 of a tick. (01, What one tick does.) One walk over the tasks finds each server's
 // highest task with a waiting job, so that the walk over the servers need not look for one.
 
-ghost use Rattle.std.specs.Prelude.{◌≡◌, not, ◌&&◌, ◌||◌, ◌≤◌, leb, ltb, eqb, take, replicate};
-ghost use Rattle.laws.specs.Choice.{if◌then◌else◌};
+ghost use Rattle.std.specs.Prelude.{◌≡◌, not, ◌&&◌, ◌||◌, ◌≤◌, leb, ltb, eqb, take, replicate, if◌then◌else◌};
 ghost use Rattle.queues.specs.Queues.{turn_of};
 ghost use Rattle.laws.specs.Rows.{found_by};
 ghost use Rattle.scheduler.specs.Inner.Choose.{owner_column, capacity_column, Owned, TopsFound};

@@ -1,7 +1,6 @@
 // Steps 1 to 4 of a tick. (01, What one tick does.)
 
-ghost use Rattle.std.specs.Prelude.{◌≡◌, ◌+◌, ◌≤◌, ◌<◌, get_or};
-ghost use Rattle.laws.specs.Choice.{if◌then◌else◌};
+ghost use Rattle.std.specs.Prelude.{◌≡◌, ◌+◌, ◌≤◌, ◌<◌, get_or, if◌then◌else◌};
 ghost use Rattle.laws.specs.Rows.{anew, any_below, sum_below};
 ghost use Rattle.run.specs.Tick.{counts_as, raises, raised, enters};
 ghost use Rattle.scheduler.specs.Inner.Steps.{Judges, RanJob, Marks, none_found, kept_of};

@@ -1,7 +1,7 @@
 -- 02, No. 6: the frame of the older cabinet, which "gives slots by a fixed frame of 1,200", by the
 -- rule of its words, and how many slots in a row a partition has.
-use Rattle.std.specs.Prelude.{◌||◌, List, ℕ, ◌+◌, ◌%◌, eqb}
-use Rattle.laws.specs.Choice.{if◌then◌else◌, within, one_if}
+use Rattle.std.specs.Prelude.{◌||◌, List, ℕ, ◌+◌, ◌%◌, eqb, if◌then◌else◌}
+use Rattle.laws.specs.Choice.{within, one_if}
 use Rattle.laws.specs.Rows.{sum_below, listed}
 
 -- "0 measuring, 1 alarm sending, 2 panel"

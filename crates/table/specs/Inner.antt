@@ -1,8 +1,8 @@
 -- Only contracts of inner functions, of `row_in` and `rows_fault`, which crate reader calls, and
 -- proofs cite this file; a buyer need not read it. It says what the code asks of some rows of a
 -- table, one function of it each. `specs/Rules.antt` says the rules.
-use Rattle.std.specs.Prelude.{◌≡◌, Bool, List, ℕ, leb, ltb, eqb, length, get_or, take}
-use Rattle.laws.specs.Choice.{if◌then◌else◌, unless◌say◌else◌, every}
+use Rattle.std.specs.Prelude.{◌≡◌, Bool, List, ℕ, leb, ltb, eqb, length, get_or, take, if◌then◌else◌}
+use Rattle.laws.specs.Choice.{unless◌say◌else◌, every}
 use Rattle.laws.specs.Rows.{all_below}
 use Rattle.table.specs.declared.ByMode.{ByMode}
 use Rattle.table.specs.declared.Server.{Server}

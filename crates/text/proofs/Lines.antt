@@ -1,5 +1,6 @@
 -- A line and its text are inverse: what a written line says is what was written, and a line that
 -- has a form is written as it stands. Nothing here knows a bound or a row. Assumes nothing.
+use Rattle.std.specs.Prelude.{if◌then◌else◌}
 use mathlib.Core.Path.{◌≡◌, refl, sym, ap, ap₂, ◌∙◌}
 use mathlib.Core.Bool.{Bool, true, false, ◌||◌}
 use mathlib.Core.List.{List, [], ◌∷◌, ◌++◌}
@@ -11,7 +12,7 @@ use lib.ListN.{length, get_or, take}
 use borrow.Author.Tests.{ltb-true, ltb-false}
 use Rattle.laws.specs.declared.Found.{Found}
 use Rattle.laws.specs.declared.Found.TheVariants.{At, Nothing}
-use Rattle.laws.specs.Choice.{if◌then◌else◌, every, within}
+use Rattle.laws.specs.Choice.{every, within}
 use Rattle.laws.specs.Search.{least, first_failed}
 use Rattle.laws.proofs.Choice.{clash, if_ind, and_left, and_right, or_cases, within_low, within_high}
 use Rattle.laws.proofs.Search.{failed_none}

@@ -1,6 +1,7 @@
 -- From microseconds to ticks and back: a whole number of ticks comes back as it was, and a row
 -- comes back from its line. Of a line only a task time may change on the way, and it does exactly
 -- where it was not whole ticks, and a phase 0, which is left out. Assumes nothing.
+use Rattle.std.specs.Prelude.{if◌then◌else◌}
 use mathlib.Core.Path.{◌≡◌, refl, sym, ap}
 use mathlib.Core.Bool.{Bool, true, false, not}
 use mathlib.Core.List.{[], ◌∷◌}
@@ -9,7 +10,7 @@ use native.Mathlib.Omega.{arith}
 use native.Mathlib.Nat.{div-add-mod', mul-div_cancel, mul-mod_left, le_of_mul-le-mul_right, zero-div, zero-mul}
 use lib.Dec.{eqb}
 use borrow.Author.Tests.{eqb-true, eqb-false, eq-eqb, ne_eqb}
-use Rattle.laws.specs.Choice.{if◌then◌else◌, every}
+use Rattle.laws.specs.Choice.{every}
 use Rattle.laws.specs.RoundUp.{up}
 use Rattle.laws.proofs.Choice.{clash, every_at}
 use Rattle.laws.proofs.RoundUp.{up_le, le_up}

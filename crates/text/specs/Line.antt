@@ -1,10 +1,10 @@
 -- 01, Tables: what a line says, in microseconds, as it stands. Here is judged only whether the line
 -- has the form of a `tick`, a `server` or a `task` line; bounds and rows are judged in
 -- Standing.antt, and know nothing of bytes.
-use Rattle.std.specs.Prelude.{Bool, List, [], ◌∷◌, ◌++◌, ℕ, ◌-◌, ltb, length, get_or}
+use Rattle.std.specs.Prelude.{Bool, List, [], ◌∷◌, ◌++◌, ℕ, ◌-◌, ltb, length, get_or, if◌then◌else◌}
 use Rattle.laws.specs.declared.Found.{Found}
 use Rattle.laws.specs.declared.Found.TheVariants.{At, Nothing}
-use Rattle.laws.specs.Choice.{if◌then◌else◌, within}
+use Rattle.laws.specs.Choice.{within}
 use Rattle.laws.specs.Search.{first_failed}
 use Rattle.decimal.specs.Number.{is_number, worth, digits}
 use Rattle.decimal.specs.Lines.{tab, split, join, same}

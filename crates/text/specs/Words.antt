@@ -1,6 +1,5 @@
 -- 01, Tables: the words of table text, as bytes, and what the words of a kind and of a level mean.
-use Rattle.std.specs.Prelude.{Bool, ◌||◌, List, ℕ}
-use Rattle.laws.specs.Choice.{if◌then◌else◌}
+use Rattle.std.specs.Prelude.{Bool, ◌||◌, List, ℕ, if◌then◌else◌}
 use Rattle.laws.specs.Quoted.{bytes}
 use Rattle.decimal.specs.Lines.{same}
 use Rattle.table.specs.declared.Kind.{Kind}

@@ -1,7 +1,7 @@
 -- 01, Tables and Numbers for no: the text of a table's rows, and what the writer answers and leaves
 -- in the lent room.
-use Rattle.std.specs.Prelude.{Bool, true, not, ◌&&◌, List, [], ◌∷◌, ◌++◌, map, ℕ, ◌*◌, leb, eqb, length, drop}
-use Rattle.laws.specs.Choice.{if◌then◌else◌, unless◌say◌else◌, every}
+use Rattle.std.specs.Prelude.{Bool, true, not, ◌&&◌, List, [], ◌∷◌, ◌++◌, map, ℕ, ◌*◌, leb, eqb, length, drop, if◌then◌else◌}
+use Rattle.laws.specs.Choice.{unless◌say◌else◌, every}
 use Rattle.decimal.specs.Lines.{line_feed, split, closed}
 use Rattle.units.specs.declared.Ticks.{Ticks}
 use Rattle.units.specs.declared.Micros.{Micros}

@@ -1,5 +1,6 @@
 -- The columns of the servers that delay a row, as a loop over the rows builds them: what stands in
 -- them asks what the rows passed ask. Assumes nothing.
+use Rattle.std.specs.Prelude.{if◌then◌else◌}
 use mathlib.Core.Path.{◌≡◌, refl, ◌∙◌}
 use mathlib.Core.Bool.{Bool, true, false}
 use mathlib.Core.List.{List}
@@ -11,7 +12,6 @@ use lib.ListN.{length, get_or, set, length-set}
 use lib.Seq.{get_or-set_same, get_or-set_other}
 use borrow.Author.Count.{below_more}
 use borrow.Author.Tests.{lt-ltb}
-use Rattle.laws.specs.Choice.{if◌then◌else◌}
 use Rattle.laws.specs.Rows.{sum_below}
 use Rattle.laws.specs.RoundUp.{up}
 use Rattle.laws.proofs.Rows.{sum_cong, sum_next}

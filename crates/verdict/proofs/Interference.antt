@@ -1,5 +1,6 @@
 -- The interference of a row: a sum over the rows, to which each of higher priority adds its part.
 -- Assumes nothing.
+use Rattle.std.specs.Prelude.{if◌then◌else◌}
 use mathlib.Core.Path.{◌≡◌, refl, sym, ap₂, ◌∙◌}
 use mathlib.Core.Logic.{◌⊎◌, inl, inr}
 use Prim.Native.Nat.{ℕ, ◌+◌, ◌*◌, ◌-◌, ◌≤◌, ◌<◌}
@@ -8,7 +9,6 @@ use lib.Dec.{ltb}
 use borrow.Author.Tests.{lt-ltb, le-ltb}
 use Rattle.laws.specs.RoundUp.{up}
 use Rattle.laws.proofs.Choice.{le_or_lt}
-use Rattle.laws.specs.Choice.{if◌then◌else◌}
 use Rattle.laws.specs.Rows.{sum_below}
 use Rattle.laws.proofs.Rows.{sum_cong}
 use Rattle.table.specs.declared.Kind.TheVariants.{Event, Timed}

@@ -1,8 +1,8 @@
 -- 01, Verdicts.
-use Rattle.std.specs.Prelude.{Bool, ℕ, ◌+◌, ◌*◌, ◌-◌, leb, ltb, eqb}
+use Rattle.std.specs.Prelude.{Bool, ℕ, ◌+◌, ◌*◌, ◌-◌, leb, ltb, eqb, if◌then◌else◌}
 use Rattle.laws.specs.declared.Found.{Found}
 use Rattle.laws.specs.declared.Found.TheVariants.{At, Nothing}
-use Rattle.laws.specs.Choice.{if◌then◌else◌, unless◌say◌else◌}
+use Rattle.laws.specs.Choice.{unless◌say◌else◌}
 use Rattle.laws.specs.Search.{least}
 use Rattle.laws.specs.Rows.{sum_below}
 use Rattle.laws.specs.RoundUp.{up}

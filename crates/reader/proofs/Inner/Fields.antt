@@ -1,6 +1,7 @@
 -- One pass over the fields of a line: what it finds field by field is the first that is not as it
 -- should be, 0 for their count, and the number of each. By induction over the fields, with what is
 -- expected of each. Assumes nothing.
+use Rattle.std.specs.Prelude.{if◌then◌else◌}
 use mathlib.Core.Path.{◌≡◌, refl, ap, ◌∙◌}
 use mathlib.Core.Bool.{Bool, true, false, ◌||◌}
 use mathlib.Core.List.{List, [], ◌∷◌, map}
@@ -14,7 +15,7 @@ use lib.Seq.{drop-cons, get_or-set_same, get_or-set_other}
 use borrow.Author.Tests.{ltb-true, ltb-false, lt-leb}
 use Rattle.laws.specs.declared.Found.{Found}
 use Rattle.laws.specs.declared.Found.TheVariants.{At, Nothing}
-use Rattle.laws.specs.Choice.{if◌then◌else◌, every, within}
+use Rattle.laws.specs.Choice.{every, within}
 use Rattle.laws.specs.Search.{first_failed}
 use Rattle.laws.proofs.Choice.{and_left, and_right, if_ind, or_true_left, or_true_right, within_high, is_within}
 use Rattle.laws.proofs.Search.{failed_none, failed_empty, failed_here, one_past, failed_past}

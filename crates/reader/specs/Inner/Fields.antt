@@ -1,8 +1,7 @@
 -- Only contracts of inner functions cite this file; a buyer need not read it. It says what one pass
 -- over the fields of a line finds: the first field that is not as it should be, the number of each,
 -- how many there are, and where the line ends.
-use Rattle.std.specs.Prelude.{List, [], ◌∷◌, map, ℕ, ◌+◌, ltb, eqb, length, drop, set, replicate}
-use Rattle.laws.specs.Choice.{if◌then◌else◌}
+use Rattle.std.specs.Prelude.{List, [], ◌∷◌, map, ℕ, ◌+◌, ltb, eqb, length, drop, set, replicate, if◌then◌else◌}
 use Rattle.laws.specs.declared.Found.{Found}
 use Rattle.laws.specs.declared.Found.TheVariants.{At, Nothing}
 use Rattle.decimal.specs.declared.Number.{Number}

@@ -1,5 +1,6 @@
 -- Counting taken ticks, one array after the other: which places change, that the arrays then hold the
 -- numbers of one tick more, and how a loop goes over many ticks. Assumes nothing.
+use Rattle.std.specs.Prelude.{if◌then◌else◌}
 use mathlib.Core.Path.{◌≡◌, refl, sym, ap, ap₂, ◌∙◌}
 use mathlib.Core.Bool.{Bool, true, false, not, ◌&&◌}
 use mathlib.Core.List.{List, [], ◌∷◌, ◌++◌, append_assoc, append-nil}
@@ -14,7 +15,7 @@ use lib.Seq.{set-get_or, take-take, take-add, take_at, drop_at, drop-drop}
 use borrow.Author.Count.{below_more}
 use borrow.Rule.Slice.PartMut.{put_mid, drop_put}
 use borrow.Author.Tests.{eqb-true, eqb-false, ne_eqb, lt-ltb}
-use Rattle.laws.specs.Choice.{if◌then◌else◌, larger, one_if}
+use Rattle.laws.specs.Choice.{larger, one_if}
 use Rattle.laws.proofs.Choice.{clash, if_ind}
 use Rattle.laws.proofs.Rows.{sum_part}
 use Rattle.table.specs.declared.Table.{Table}

@@ -1,7 +1,7 @@
 -- Only contracts of inner functions cite this file; a buyer need not read it. What the functions
 -- that count are handed, and what they leave.
-use Rattle.std.specs.Prelude.{◌≡◌, not, List, [], ◌∷◌, ◌++◌, ℕ, ◌+◌, ◌*◌, ◌≤◌, ◌<◌, eqb, length, get_or, set, take}
-use Rattle.laws.specs.Choice.{if◌then◌else◌, larger, one_if}
+use Rattle.std.specs.Prelude.{◌≡◌, not, List, [], ◌∷◌, ◌++◌, ℕ, ◌+◌, ◌*◌, ◌≤◌, ◌<◌, eqb, length, get_or, set, take, if◌then◌else◌}
+use Rattle.laws.specs.Choice.{larger, one_if}
 use Rattle.table.specs.declared.Table.{Table}
 use Rattle.events.specs.declared.Told.TheVariants.{Ticked}
 use Rattle.events.specs.Values.{told_values}

@@ -1,6 +1,7 @@
 -- The highest marked row, kept as a priority and a row, 0 being nothing found: how a walk over
 -- tasks finds the highest of each server, and a walk over servers the highest that is able.
 -- Priorities of a table are at least 1. Assumes nothing.
+use Rattle.std.specs.Prelude.{if◌then◌else◌}
 use mathlib.Core.Path.{◌≡◌, refl, sym, ap, ap₂, subst, ◌∙◌}
 use mathlib.Core.Bool.{Bool, true, false, not, ◌&&◌, ◌||◌}
 use mathlib.Core.List.{List, ◌++◌}
@@ -13,7 +14,6 @@ use lib.ListN.{length, get_or, set, take, drop, replicate, get_or-replicate, len
 use lib.Seq.{get_or-set_same, get_or-set_other, get_or-take, length-take-le, ext_get_or}
 use borrow.Author.Tests.{lt-ltb, ltb-true, ltb-false, eq-eqb, ne_eqb}
 use Rattle.laws.specs.declared.Found.TheVariants.{At}
-use Rattle.laws.specs.Choice.{if◌then◌else◌}
 use Rattle.laws.specs.Rows.{any_below, highest, anew, found_by}
 use Rattle.laws.proofs.Anew.{length_anew, anew_at}
 use Rattle.laws.proofs.Choice.{and_left, and_right, and_true}

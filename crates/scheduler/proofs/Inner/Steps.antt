@@ -1,4 +1,5 @@
 -- The steps of a tick on the parts of a run, case by case as the code makes them. Assumes nothing.
+use Rattle.std.specs.Prelude.{if◌then◌else◌}
 use mathlib.Core.Path.{◌≡◌, refl, sym, ap, ◌∙◌}
 use mathlib.Core.Bool.{Bool, true, false}
 use mathlib.Core.List.{List, [], ◌∷◌, ◌++◌}
@@ -8,7 +9,6 @@ use native.Mathlib.Nat.{add-zero, zero-add, suc-add}
 use lib.Dec.{leb, eqb}
 use lib.ListN.{length, get_or, set, replicate, get_or-replicate}
 use borrow.Author.Tests.{ltb-true}
-use Rattle.laws.specs.Choice.{if◌then◌else◌}
 use Rattle.laws.specs.Rows.{anew, any_below, sum_below}
 use Rattle.laws.proofs.Anew.{anew_cong, anew_same, anew_row, anew_put, anew_stay}
 use Rattle.laws.proofs.Rows.{sum_next, sum_cong, sum_zero}

@@ -1,8 +1,7 @@
 -- Many event lines behind the door, on the parts of a run. `Rattle.run.specs.Many` says what they
 -- do.
-use Rattle.std.specs.Prelude.{◌≡◌, Bool, true, false, List, ℕ, ◌+◌, ◌*◌}
+use Rattle.std.specs.Prelude.{◌≡◌, Bool, true, false, List, ℕ, ◌+◌, ◌*◌, if◌then◌else◌}
 use Rattle.std.proofs.Math.Seq.{paste}
-use Rattle.laws.specs.Choice.{if◌then◌else◌}
 use Rattle.table.specs.declared.Table.{Table}
 use Rattle.events.specs.declared.EventLine.{EventLine}
 use Rattle.run.specs.declared.Run.{Run}

@@ -1,6 +1,5 @@
 -- A run in parts: its table, its head and the counts of its rows.
-use Rattle.std.specs.Prelude.{Bool, ◌≡◌, List, ℕ}
-use Rattle.laws.specs.Choice.{if◌then◌else◌}
+use Rattle.std.specs.Prelude.{Bool, ◌≡◌, List, ℕ, if◌then◌else◌}
 use Rattle.table.specs.declared.Mode.{Mode}
 use Rattle.table.specs.declared.Table.{Table}
 use Rattle.queues.specs.declared.Last.{Last}

@@ -1,8 +1,7 @@
 -- The steps of a tick on the parts of a run. `Rattle.run.specs.Tick` says the steps; here a step
 -- makes the parts after it, marked by a prime, of those before it, whatever else the run holds: for
 -- every table whose rows stand in the sheets.
-use Rattle.std.specs.Prelude.{◌≡◌, Bool, true, false, List, ◌++◌, ℕ, ◌+◌, ◌≤◌, ◌<◌, ltb, eqb, get_or, replicate}
-use Rattle.laws.specs.Choice.{if◌then◌else◌}
+use Rattle.std.specs.Prelude.{◌≡◌, Bool, true, false, List, ◌++◌, ℕ, ◌+◌, ◌≤◌, ◌<◌, ltb, eqb, get_or, replicate, if◌then◌else◌}
 use Rattle.laws.specs.Rows.{sum_below, anew}
 use Rattle.table.specs.declared.ByMode.{ByMode}
 use Rattle.table.specs.declared.Level.{Level}

@@ -1,10 +1,10 @@
 -- `scheduler::advance::age` meets its contract: the elapsed counts passed have aged. Assumes nothing.
+use Rattle.std.specs.Prelude.{if◌then◌else◌}
 use mathlib.Core.Path.{◌≡◌, sym, ap, ◌∙◌}
 use Prim.Native.Nat.{ℕ, ◌+◌, ◌≤◌, ◌-◌}
 use native.Mathlib.Omega.{arith}
 use lib.Dec.{leb}
 use lib.ListN.{get_or}
-use Rattle.laws.specs.Choice.{if◌then◌else◌}
 use Rattle.laws.specs.Rows.{anew}
 use Rattle.laws.proofs.Anew.{anew_none, anew_row, anew_put}
 use Rattle.scheduler.proofs.Inner.Steps.{aged, passing_most, ages_is}

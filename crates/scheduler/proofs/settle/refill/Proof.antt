@@ -1,12 +1,12 @@
 -- `scheduler::settle::refill` meets its contract: the rows passed are refilled, the others as they
 -- were. Assumes nothing.
+use Rattle.std.specs.Prelude.{if◌then◌else◌}
 use mathlib.Core.Path.{◌≡◌, ap, ◌∙◌}
 use Prim.Native.Nat.{◌≤◌, ◌-◌}
 use native.Mathlib.Omega.{arith}
 use lib.ListN.{get_or}
 use lib.Dec.{eqb}
 use Rattle.laws.specs.Rows.{anew}
-use Rattle.laws.specs.Choice.{if◌then◌else◌}
 use Rattle.laws.proofs.Anew.{anew_none}
 use Rattle.scheduler.proofs.Inner.Steps.{refilled, refill_put, refills_is}
 use Rattle.scheduler.proofs.settle.refill.Statement.{statement}
