@@ -4,7 +4,7 @@
 use mathlib.Core.Path.{◌≡◌, refl, ap, sym, subst, ◌∙◌}
 use mathlib.Core.Bool.{Bool, true, false, ◌&&◌}
 use mathlib.Core.List.{List, [], ◌∷◌}
-use Prim.Native.Nat.{ℕ, ◌+◌, ◌≤◌, ◌<◌}
+use Prim.Native.Nat.{ℕ, ◌+◌, ◌<◌}
 use native.Mathlib.Omega.{arith}
 use lib.ListN.{get_or-replicate}
 use borrow.Author.Tests.{ltb-true}
@@ -19,8 +19,6 @@ use Rattle.table.specs.Rules.{table_keeps}
 use Rattle.table.proofs.Rules.{TableRules, table_rules}
 use Rattle.queues.specs.declared.Last.{Last}
 use Rattle.queues.specs.declared.Last.TheVariants.{NoJob, Job}
-use Rattle.events.specs.declared.Left.{Left}
-use Rattle.events.specs.declared.Left.TheVariants.{Nobody, Done, Cut}
 use Rattle.run.specs.declared.State.{State}
 use Rattle.run.specs.declared.Run.{Run}
 use Rattle.events.specs.declared.Event.{Event}
@@ -28,8 +26,8 @@ use Rattle.events.specs.declared.Event.TheVariants.{Release, Tick}
 use Rattle.run.specs.declared.Answered.{Answered}
 use Rattle.run.specs.State.{queues_of, waiting_at, runs_at, fresh}
 use Rattle.run.specs.Sound.{sound}
-use Rattle.events.specs.Answers.{one, finished_by, cut_by}
-use Rattle.run.specs.Release.{fresh_run, with_job}
+use Rattle.events.specs.Answers.{finished_by, cut_by}
+use Rattle.run.specs.Release.{fresh_run}
 use Rattle.run.specs.Tick.{Marked, judge, step1, enters, drops, discards, settle, tick_taken}
 use Rattle.run.specs.Events.{event_of, the_box, after, answers}
 use Rattle.events.specs.Boxes.{after_in, answers_in}

@@ -1,19 +1,18 @@
 -- Many event lines at once: what is told to some lines and then to others, one line after the
 -- other; a sound run stays sound over them. Assumes nothing.
-use mathlib.Core.Path.{◌≡◌, refl, sym, ap, ap₂, subst, ◌∙◌}
+use mathlib.Core.Path.{◌≡◌, refl, ap, subst, ◌∙◌}
 use mathlib.Core.Bool.{Bool, true, false, ◌&&◌}
-use mathlib.Core.List.{List, [], ◌∷◌, ◌++◌, map, append_assoc}
+use mathlib.Core.List.{List, [], ◌∷◌}
 use mathlib.Core.Logic.{◌↔◌, ◌⊎◌, inl, inr}
-use Prim.Native.Nat.{ℕ, zero, suc, ◌+◌, ◌*◌, ◌≤◌, ◌<◌}
+use Prim.Native.Nat.{ℕ, ◌*◌, ◌≤◌, ◌<◌}
 use native.Mathlib.Omega.{arith}
 use lib.Dec.{leb}
-use lib.ListN.{length, get_or, drop, length-append}
+use lib.ListN.{length, get_or, drop}
 use lib.Seq.{drop-append_seam, drop_at}
 use borrow.Author.Tests.{leb-true, leb-false, le-leb, lt-leb}
 use Rattle.laws.specs.Choice.{unless◌say◌else◌}
 use Rattle.laws.proofs.Choice.{if_ind, and_left, and_right}
 use Rattle.table.specs.declared.Refusal.TheVariants.{RoomShort, Unsound}
-use Rattle.events.specs.Boxes.{after_lines_in}
 use Rattle.run.specs.declared.Run.{Run}
 use Rattle.events.specs.declared.Answer.{Answer}
 use Rattle.events.specs.declared.Answer.TheVariants.{Released as AnswerReleased, Ticked as AnswerTicked}
@@ -26,12 +25,12 @@ use Rattle.events.specs.declared.EventLine.TheVariants.{Of, Another}
 use Rattle.events.specs.declared.Told.{Told}
 use Rattle.events.specs.declared.Told.TheVariants.{No, Released, Ticked}
 use Rattle.run.specs.Sound.{sound}
-use Rattle.run.specs.Events.{event_of, the_box}
+use Rattle.run.specs.Events.{the_box}
 use Rattle.run.specs.Tick.{settle, tick_of}
 use Rattle.run.specs.Found.{TakenTick, tick_taken_so, taken_by, all_found, all_told}
-use Rattle.events.specs.Values.{told_of, lines_said, told_values, told_at}
+use Rattle.events.specs.Values.{told_of, lines_said, told_at}
 use Rattle.run.specs.Many.{ticks_at, ticks_among, LentBoth, unfound, taken_finding, find_of}
-use Rattle.run.specs.Many.{told_to, after_line, told_to_all, after_lines, Lent, untaken, taken, many_of}
+use Rattle.run.specs.Many.{told_to, told_to_all, after_lines, Lent, untaken, taken, many_of}
 use Rattle.events.specs.Values.{all_values}
 use Rattle.events.specs.Answers.{taking_number}
 use Rattle.events.proofs.Values.{values_length, values_at}

@@ -2,12 +2,11 @@
 -- release 6, 7, 8, 10; tick 9, 10". The tests stand in that order in the definitions, and each
 -- answer is the first that fails. Assumes nothing.
 use mathlib.Core.Path.{ap, ◌≡◌, refl, subst}
-use mathlib.Core.Bool.{Bool, true, false, not, ◌&&◌, ◌||◌}
+use mathlib.Core.Bool.{Bool, true, false, not, ◌&&◌}
 use mathlib.Core.List.{List, [], ◌∷◌}
 use mathlib.Core.Logic.{◌↔◌}
 use Prim.Native.Nat.{ℕ, ◌≤◌, ◌<◌}
 use native.Mathlib.Omega.{arith}
-use lib.Dec.{eqb}
 use borrow.Author.Tests.{ltb-true, ltb-false, lt-ltb, le-ltb}
 use Rattle.laws.proofs.Choice.{clash, if_ind}
 use Rattle.units.specs.declared.Ticks.{Ticks}
@@ -20,7 +19,7 @@ use Rattle.table.specs.declared.Table.{Table}
 use Rattle.table.specs.Rows.{task_at, is_low, is_d2}
 use Rattle.table.specs.Rules.{table_keeps}
 use Rattle.queues.specs.declared.Last.{Last}
-use Rattle.queues.specs.declared.Last.TheVariants.{NoJob, Job}
+use Rattle.queues.specs.declared.Last.TheVariants.{NoJob}
 use Rattle.events.specs.Boxes.{after_in}
 use Rattle.run.specs.declared.Run.{Run}
 use Rattle.events.specs.declared.Event.{Event}
@@ -35,7 +34,6 @@ use Rattle.events.proofs.Answers.{holds_iff, Given}
 use Rattle.queues.proofs.Queues.{no_job}
 use Rattle.events.specs.Answers.{starting_number}
 use Rattle.run.specs.Release.{fresh_run, start_of, release_of}
-use Rattle.queues.specs.Queues.{ran_job}
 use Rattle.run.specs.Tick.{advance, tick_taken, tick_of}
 use Rattle.run.specs.Events.{event_of, after}
 use Rattle.run.proofs.Taken.{level_taken, mark_taken, release_cases, tick_cases, release_ind, tick_ind}

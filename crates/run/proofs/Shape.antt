@@ -3,9 +3,8 @@
 -- it was. Assumes nothing.
 use mathlib.Core.Path.{◌≡◌, refl, ap, sym, subst, ◌∙◌}
 use mathlib.Core.Bool.{Bool, true, false}
-use mathlib.Core.List.{List}
-use Prim.Native.Nat.{ℕ, ◌-◌}
-use lib.ListN.{length, set, length-set, length-replicate}
+use Prim.Native.Nat.{ℕ}
+use lib.ListN.{length, length-set, length-replicate}
 use Rattle.laws.proofs.Choice.{if_ind}
 use Rattle.laws.proofs.Anew.{length_anew}
 use Rattle.table.specs.declared.Mode.{Mode}

@@ -1,20 +1,16 @@
 -- The tasks' rows through a tick. Steps 1 to 3 only take jobs away, each counted; after them no job
 -- is at its limit, and no LO job waits in D2. Steps 4 to 7 leave the queues alone but for the run
 -- count of the job that runs. Assumes nothing.
-use Rattle.std.specs.Prelude.{if◌then◌else◌}
+use Rattle.std.specs.Prelude.{if◌then◌else◌, if◌then◌else◌}
 use mathlib.Core.Path.{◌≡◌, refl, ap, sym, subst, ◌∙◌}
 use mathlib.Core.Bool.{Bool, true, false, not, ◌&&◌}
-use mathlib.Core.List.{List}
 use mathlib.Core.Logic.{◌⊎◌, inl, inr, ◌↔◌}
-use Prim.Native.Nat.{ℕ, zero, suc, ◌+◌, ◌-◌, ◌≤◌, ◌<◌}
+use Prim.Native.Nat.{ℕ, ◌+◌, ◌≤◌, ◌<◌}
 use native.Mathlib.Omega.{arith}
-use lib.Dec.{eqb}
-use lib.ListN.{length, get_or, set}
-use lib.Seq.{get_or-set_same, get_or-set_other}
-use borrow.Author.Tests.{eqb-true, eqb-false, lt-ltb, not-true}
-use Rattle.laws.specs.Rows.{sum_below}
-use Rattle.laws.proofs.Choice.{clash, if_ind, true_or_false, and_left, and_right, and_true}
-use Rattle.laws.proofs.Rows.{any_none, sum_zero}
+use lib.ListN.{length}
+use borrow.Author.Tests.{eqb-true, lt-ltb, not-true}
+use Rattle.laws.proofs.Choice.{clash, if_ind, and_left, and_right, and_true}
+use Rattle.laws.proofs.Rows.{any_none}
 use Rattle.laws.proofs.Anew.{anew_at}
 use Rattle.table.specs.declared.Level.TheVariants.{LO}
 use Rattle.table.specs.declared.Mode.{Mode}
@@ -35,7 +31,7 @@ use Rattle.queues.proofs.Sound.{JudgedQueue, stays_judged, other_below, within_l
 use Rattle.run.specs.declared.Judged.{Judged}
 use Rattle.run.specs.Tick.{Marked, judge, without_front, judged, step1, drops, discards, step2, step3, step4, settle, choose}
 use Rattle.run.specs.Tick.{advance, tick_taken}
-use Rattle.run.proofs.Shape.{Shaped, alike_shaped, mode-alike, step1_alike, settle_shaped}
+use Rattle.run.proofs.Shape.{Shaped, alike_shaped, step1_alike, settle_shaped}
 use Rattle.run.proofs.Sound.{TaskSound, JobSound, LastSound, StateSound, task_queue}
 use Rattle.run.proofs.Judge.{Rises, JudgedRight, judged_right}
 

@@ -1,5 +1,5 @@
 -- 01, What one tick does, step by step.
-use Rattle.std.specs.Prelude.{Bool, true, false, not, ◌&&◌, ◌||◌, ℕ, zero, suc, ◌+◌, ◌-◌, ltb, eqb, if◌then◌else◌}
+use Rattle.std.specs.Prelude.{Bool, true, false, not, ◌&&◌, ◌||◌, ℕ, zero, suc, ◌+◌, ltb, eqb}
 use Rattle.laws.specs.declared.Found.{Found}
 use Rattle.laws.specs.declared.Found.TheVariants.{At, Nothing}
 use Rattle.laws.specs.Choice.{unless◌say◌else◌}
@@ -19,7 +19,7 @@ use Rattle.queues.specs.Queues.{front_gone, highest_waiting, turn_of, front_ran,
 use Rattle.run.specs.declared.State.{State}
 use Rattle.run.specs.declared.Run.{Run}
 use Rattle.events.specs.declared.Turn.{Turn}
-use Rattle.events.specs.declared.Turn.TheVariants.{Run as Ran, Empty, Idle}
+use Rattle.events.specs.declared.Turn.TheVariants.{Idle}
 use Rattle.run.specs.declared.Judged.{Judged}
 use Rattle.events.specs.declared.Left.{Left}
 use Rattle.events.specs.declared.Left.TheVariants.{Nobody, Done, Cut}
