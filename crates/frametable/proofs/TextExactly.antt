@@ -3,27 +3,23 @@
 -- and 5 are given exactly there, with line and field or both lines. Assumes nothing.
 use mathlib.Core.Path.{◌≡◌, refl, sym, subst, ◌∙◌}
 use mathlib.Core.Bool.{Bool, true, false}
-use mathlib.Core.List.{List, [], map}
+use mathlib.Core.List.{List, []}
 use mathlib.Core.Logic.{◌↔◌, ◌⊎◌, inl, inr}
-use Prim.Native.Nat.{ℕ, suc, ◌+◌, ◌-◌, ◌≤◌, ◌<◌}
+use Prim.Native.Nat.{ℕ, suc, ◌+◌, ◌≤◌, ◌<◌}
 use native.Mathlib.Omega.{arith}
-use lib.ListN.{length, get_or, take}
+use lib.ListN.{length, get_or}
 use Rattle.laws.specs.Choice.{unless◌say◌else◌}
 use Rattle.laws.proofs.Choice.{le_or_lt}
-use Rattle.decimal.specs.Lines.{line_feed, split}
+use Rattle.decimal.specs.Lines.{line_feed}
 use Rattle.decimal.proofs.Lines.{split_some}
 use Rattle.table.specs.declared.Pair.{Pair}
 use Rattle.table.specs.declared.Pair.TheVariants.{Equal as EqualRows, Differ}
-use Rattle.table.specs.declared.Refusal.{Refusal}
-use Rattle.table.specs.declared.Refusal.TheVariants.{Malformed, OutOfBounds}
-use Rattle.table.specs.declared.Standing.{Standing}
-use Rattle.table.specs.declared.Standing.TheVariants.{Kept, Broken}
+use Rattle.table.specs.declared.Refusal.TheVariants.{Malformed}
 use Rattle.text.specs.Standing.{is_nil}
-use Rattle.text.specs.TableText.{ReadOf, taken, refused_beside, equal_beside, rows_grown}
-use Rattle.text.proofs.TableText.{standing_at, text_long, text_short, first_told, all_told_lem, FirstBroken, first_or_all}
+use Rattle.text.specs.TableText.{ReadOf, refused_beside}
+use Rattle.text.proofs.TableText.{text_long, text_short, first_told, all_told_lem, FirstBroken, first_or_all}
 use Rattle.frametable.specs.Rows.{FrameRows, no_frame_rows}
 use Rattle.frametable.specs.Rules.{equal_frame_tasks}
-use Rattle.frametable.specs.Line.{read_frame_line}
 use Rattle.frametable.specs.Text.{frame_ended, frame_text, frame_read}
 use Rattle.frametable.specs.Exactly.{parts, closed_lines, FirstKept, rows_said, AllKept, FrameCase, too_long, line_broken}
 use Rattle.frametable.specs.Exactly.{unclosed, no_task, equal_tasks, all_taken}

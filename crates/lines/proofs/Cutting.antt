@@ -1,7 +1,7 @@
 -- An event file may be cut anywhere: its lines are the same. A line is closed at the first line
 -- feed, so the loop that looks for line feeds finds what the definition says byte by byte. Assumes
 -- nothing.
-use Rattle.std.specs.Prelude.{if◌then◌else◌}
+use Rattle.std.specs.Prelude.{if◌then◌else◌, if◌then◌else◌}
 use mathlib.Core.Path.{◌≡◌, refl, sym, ap, ◌∙◌}
 use mathlib.Core.Bool.{Bool, true, false, ◌||◌}
 use mathlib.Core.List.{List, [], ◌∷◌, ◌++◌, append_assoc, append-nil}

@@ -111,7 +111,10 @@ told_tick t ls k =
     record {
       good = ih.good;
       writable = (tick_writable 1 no_rows t c, ih.writable);
-      rounded_writable = (tick_writable 1 no_rows t c, rw ih.same_tick ih.rounded_writable);
+      rounded_writable = (
+        tick_writable 1 no_rows t c,
+        subst (λ (u : Micros). AllWritable (map (rounded u.0) ls)) (sym ih.same_tick) ih.rounded_writable,
+      );
       lines = ih.lines ∙ ap (λ u. OfTick t ∷ map (rounded u.0) ls) (sym ih.same_tick);
     }
 

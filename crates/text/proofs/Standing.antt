@@ -36,7 +36,7 @@ use Rattle.text.specs.declared.Line.{Line}
 use Rattle.text.specs.declared.Line.TheVariants.{OfTick, OfServer, OfTask, Malformed}
 use Rattle.table.specs.declared.Standing.{Standing}
 use Rattle.table.specs.declared.Standing.TheVariants.{Kept, Broken}
-use Rattle.text.specs.Standing.{is_nil, phase_said, server_of, limits_of, task_of, placed, server_bounds, task_bounds, bounds, whole, server_whole, wholes, fault, tell◌at◌or◌, standing, grown}
+use Rattle.text.specs.Standing.{is_nil, phase_said, server_of, limits_of, task_of, placed, server_bounds, task_bounds, bounds, server_whole, wholes, fault, tell◌at◌or◌, standing, grown}
 use Rattle.text.specs.Line.{word_of, malformed_at}
 use Rattle.text.specs.Write.{server_back, task_back, server_lines, task_lines, lines_of}
 use Rattle.text.proofs.Lines.{Short, ShortLast, Writable}
