@@ -1,20 +1,18 @@
 -- The definitions on small runs, computed: a slip in a definition shows here as an equation that fails.
 -- The laws say more than these. Assumes nothing.
 use mathlib.Core.Path.{◌≡◌, refl}
-use mathlib.Core.Bool.{Bool, true, false}
-use mathlib.Core.List.{List, [], ◌∷◌, ◌++◌, map}
-use Prim.Native.Nat.{ℕ, ◌-◌}
+use mathlib.Core.Bool.{true, false}
+use mathlib.Core.List.{List, [], ◌∷◌, map}
+use Prim.Native.Nat.{ℕ}
 use lib.ListN.{replicate, set}
 use Rattle.laws.specs.Choice.{every}
 use Rattle.laws.specs.Search.{least}
 use Rattle.laws.specs.Rows.{all_below, sum_below, highest, anew}
-use Rattle.units.specs.declared.Ticks.{Ticks}
 use Rattle.table.specs.declared.Mode.TheVariants.{N}
-use Rattle.table.specs.declared.Refusal.TheVariants.{NoTask, QueueFull, NoJobRan, CountSpent, Unsound}
 use Rattle.table.specs.Rules.{differ}
 use Rattle.slots.specs.Frame.{rule_of, owner_at}
 use Rattle.events.specs.declared.Answer.{Answer}
-use Rattle.events.specs.declared.Answer.TheVariants.{Released, Ticked, No}
+use Rattle.events.specs.declared.Answer.TheVariants.{Released, Ticked}
 use Rattle.events.specs.declared.Event.{Event}
 use Rattle.events.specs.declared.Event.TheVariants.{Release, Tick}
 use Rattle.events.specs.declared.Left.{Left}

@@ -1,10 +1,10 @@
 -- Soundness is kept: a fresh run of a table that keeps the rules is sound, and a release or a tick
 -- that is taken leaves a sound state, of the same shape and with the same table. So every state that a
 -- run hands out may be handed in again. Assumes nothing.
-use mathlib.Core.Path.{◌≡◌, refl, ap, sym, ◌∙◌}
+use mathlib.Core.Path.{◌≡◌, refl, ap, ◌∙◌}
 use mathlib.Core.Bool.{Bool, true}
 use mathlib.Core.List.{List}
-use Prim.Native.Nat.{ℕ, ◌+◌, ◌≤◌, ◌<◌}
+use Prim.Native.Nat.{ℕ, ◌<◌}
 use native.Mathlib.Omega.{arith}
 use lib.ListN.{length, length-set, length-replicate, get_or-replicate}
 use borrow.Author.Tests.{ltb-true}
@@ -32,8 +32,8 @@ use Rattle.framerun.specs.declared.FrameRun.{FrameRun}
 use Rattle.framerun.specs.declared.FrameAnswered.{FrameAnswered}
 use Rattle.framerun.specs.State.{queues_of, waiting_at, runs_at, fresh}
 use Rattle.framerun.specs.Sound.{frame_sound}
-use Rattle.framerun.specs.Release.{with_job, fresh_frame, release_of}
-use Rattle.framerun.specs.Tick.{settle, turn_at, advance, tick_taken, tick_of}
+use Rattle.framerun.specs.Release.{with_job, fresh_frame}
+use Rattle.framerun.specs.Tick.{settle, turn_at, advance, tick_taken}
 use Rattle.framerun.specs.Events.{event_of, frame_box}
 use Rattle.framerun.proofs.Taken.{release_ind, tick_ind}
 use Rattle.framerun.proofs.Sound.{StateSound, TaskSound, sound_table, sound_state_lem, sound_build}

@@ -2,9 +2,9 @@
 -- facts, that it is sound. So 13 is answered exactly where one of these facts is broken. The clauses
 -- are those of crate queues. Assumes nothing.
 use mathlib.Core.Path.{◌≡◌}
-use mathlib.Core.Bool.{Bool, true, false}
+use mathlib.Core.Bool.{true, false}
 use mathlib.Core.List.{[], ◌∷◌}
-use mathlib.Core.Logic.{◌⊎◌, inl, inr, ◌↔◌}
+use mathlib.Core.Logic.{inl, inr, ◌↔◌}
 use Prim.Native.Nat.{ℕ, ◌<◌}
 use Rattle.laws.specs.Choice.{every}
 use Rattle.laws.specs.Rows.{all_below}

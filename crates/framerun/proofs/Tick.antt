@@ -1,12 +1,11 @@
 -- One tick of a frame box: what the mark leaves of the queues, whose slot it is, and whose job runs.
 -- The queues' part is crate queues'. Assumes nothing.
-use mathlib.Core.Path.{◌≡◌, refl, ap, sym, ◌∙◌}
+use mathlib.Core.Path.{◌≡◌, refl, ap, ◌∙◌}
 use mathlib.Core.Bool.{Bool, true, false, ◌&&◌}
-use mathlib.Core.List.{List}
 use mathlib.Core.Logic.{◌⊎◌, inl, inr, ◌↔◌}
 use Prim.Native.Nat.{ℕ, ◌+◌, ◌≤◌, ◌<◌}
 use native.Mathlib.Omega.{arith}
-use lib.Dec.{ltb, eqb}
+use lib.Dec.{eqb}
 use lib.ListN.{length, length-set}
 use borrow.Author.Tests.{ltb-true, lt-ltb, eqb-true, eq-eqb, eqb-false}
 use Rattle.laws.specs.declared.Found.{Found}
@@ -14,9 +13,7 @@ use Rattle.laws.specs.declared.Found.TheVariants.{At, Nothing}
 use Rattle.laws.proofs.Choice.{clash, if_ind, and_left, and_right, and_true}
 use Rattle.laws.proofs.Highest.{highest_at, highest_none}
 use Rattle.slots.specs.Frame.{owner_at}
-use Rattle.events.specs.declared.Turn.{Turn}
-use Rattle.events.specs.declared.Turn.TheVariants.{Run as Ran, Empty, Idle}
-use Rattle.events.specs.Answers.{one, ran, charged, finished_by, cut_by}
+use Rattle.events.specs.Answers.{ran, charged, finished_by, cut_by}
 use Rattle.events.proofs.Answers.{one_same, one_eq, same_or_not}
 use Rattle.queues.specs.declared.Last.{Last}
 use Rattle.queues.specs.declared.Last.TheVariants.{NoJob, Job}
@@ -30,7 +27,7 @@ use Rattle.frametable.proofs.Rules.{FrameTableRules}
 use Rattle.framerun.specs.declared.FrameState.{FrameState}
 use Rattle.framerun.specs.State.{queues_of, waiting_at, runs_at}
 use Rattle.framerun.specs.Tick.{Settled, without_front, settle, highest_task, turn_at, advance, tick_taken}
-use Rattle.framerun.proofs.Sound.{TaskSound, StateSound}
+use Rattle.framerun.proofs.Sound.{StateSound}
 
 -- the arrays of a state are lists here: they have 64 rows
 pub record Shaped (s : FrameState) : Type 0 where

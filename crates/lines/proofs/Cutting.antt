@@ -139,10 +139,10 @@ cut_rest n l (b ∷ bs) h = go (eqb b line_feed) refl h (cut_rest n (l ++ (b ∷
         (length bs ≤ index_of line_feed bs →
         cutting (suc n) (l ++ (b ∷ [])) bs ≡ record { lines = []; left = (l ++ (b ∷ [])) ++ bs; eaten = length bs }) →
         cutting (suc n) l (b ∷ bs) ≡ record { lines = []; left = l ++ (b ∷ bs); eaten = length (b ∷ bs) }
-    go true e k ih = absurd (omega (arith, rw e at k))
+    go true e k ih = absurd (omega (arith, rw (e, index_of) at k))
     go false e k ih =
         cut_on n l b bs e (record { lines = []; left = (l ++ (b ∷ [])) ++ bs; eaten = length bs })
-        (ih (omega (arith, rw e at k))) ∙
+        (ih (omega (arith, rw (e, index_of) at k))) ∙
         rw (append_assoc l (b ∷ []) bs)
 
 -- a line feed: the line before it is closed
@@ -162,14 +162,14 @@ cut_line n l (b ∷ bs) h = go (eqb b line_feed) refl h (cut_line n (l ++ (b ∷
         cutting (suc n) l (b ∷ bs)
         ≡ with_line (event_line (l ++ take (index_of line_feed (b ∷ bs)) (b ∷ bs))) (suc (index_of line_feed (b ∷ bs)))
         (cutting n [] (drop (suc (index_of line_feed (b ∷ bs))) (b ∷ bs)))
-    go true e k ih = cut_at n l b bs e ∙ rw (e, append-nil l)
+    go true e k ih = cut_at n l b bs e ∙ rw (e, index_of, append-nil l)
     go false e k ih =
         let j = index_of line_feed bs in
         let c = cutting n [] (drop (suc j) bs) in
         let s : suc (suc j + c.eaten) ≡ suc (suc j) + c.eaten = omega arith in
         cut_on n l b bs e (with_line (event_line ((l ++ (b ∷ [])) ++ take j bs)) (suc j) c)
-        (ih (omega (arith, rw e at k))) ∙
-        rw (e, append_assoc l (b ∷ []) (take j bs), s)
+        (ih (omega (arith, rw (e, index_of) at k))) ∙
+        rw (e, index_of, append_assoc l (b ∷ []) (take j bs), s)
 
 -- no more bytes are taken than there are
 pub taken_within : (k : ℕ) (bs : List ℕ) → taken_for k bs ≤ length bs

@@ -32,7 +32,6 @@ use Rattle.run.specs.Sound.{sound, sound_state, sound_server, sound_task, sound_
 use Rattle.run.specs.Release.{fresh_run, release_of}
 use Rattle.run.specs.Tick.{judge, step1, drops, discards, step2, step3, step4, settle, able, highest_able, highest_task}
 use Rattle.run.specs.Tick.{choose, advance, tick_taken, tick_of}
-use Rattle.run.specs.Events.{after, answers}
 use Rattle.events.specs.Count.{over_all}
 use Rattle.run.specs.Count.{discarded_of}
 use Rattle.run.specs.Found.{taken_ticks}
