@@ -1,6 +1,6 @@
 -- Choosing by a test, and lists of tests. Tests are Bool: `ltb`, `leb`, `eqb` of lib.Dec, `not`,
 -- `◌&&◌`, `◌||◌` of mathlib.Core.Bool.
-use mathlib.Core.Bool.{Bool, true, false, ◌&&◌}
+use mathlib.Core.Bool.{Bool, true, ◌&&◌}
 use Rattle.std.specs.Prelude.{List, [], ◌∷◌, ℕ, leb, ltb, if◌then◌else◌}
 
 -- `m` unless the test holds.

@@ -20,7 +20,6 @@ use Rattle.table.specs.Rows.{server_at, task_at, period_at, phase_at, priority_a
 use Rattle.table.specs.Rows.{is_timed}
 use Rattle.table.proofs.Rows.{timed_exactly}
 use Rattle.table.proofs.Rules.{TableRules}
-use Rattle.verdict.specs.Verdict.{told}
 use Rattle.queues.specs.declared.Last.{Last}
 use Rattle.queues.specs.declared.Last.TheVariants.{NoJob, Job}
 use Rattle.run.specs.declared.State.{State}

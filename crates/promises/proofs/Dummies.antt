@@ -16,7 +16,7 @@ use Rattle.run.specs.declared.State.{State}
 use Rattle.events.specs.declared.Event.TheVariants.{Tick}
 use Rattle.events.specs.declared.Answer.{Answer}
 use Rattle.run.specs.declared.Answered.{Answered}
-use Rattle.events.specs.Answers.{no_of, charged}
+use Rattle.events.specs.Answers.{no_of}
 use Rattle.run.specs.Release.{fresh_run}
 use Rattle.run.specs.Tick.{tick_of}
 use Rattle.table.specs.Example.{example}

@@ -5,25 +5,21 @@ use mathlib.Core.List.{List}
 use mathlib.Core.Logic.{◌⊎◌, inl, inr, ◌↔◌}
 use Prim.Native.Nat.{ℕ, ◌+◌, ◌≤◌, ◌<◌}
 use native.Mathlib.Omega.{arith}
-use lib.Dec.{ltb, eqb}
+use lib.Dec.{eqb}
 use lib.ListN.{length}
 use borrow.Author.Tests.{ltb-true, lt-ltb, eqb-true, eq-eqb}
 use Rattle.laws.specs.declared.Found.{Found}
 use Rattle.laws.specs.declared.Found.TheVariants.{At, Nothing}
 use Rattle.laws.proofs.Choice.{if_ind, clash, and_left, and_right, and_true, within_high}
 use Rattle.laws.proofs.Highest.{highest_exactly, none_exactly}
-use Rattle.units.specs.declared.Ticks.{Ticks}
 use Rattle.text.specs.Read.{reading_number}
 use Rattle.text.proofs.Refused.{reading_0}
 use Rattle.text.specs.declared.Reading.TheVariants.{Taken}
 use Rattle.slots.specs.Frame.{owner_at}
 use Rattle.slots.proofs.Frame.{frame_length, frame_is_the_rule, two_of_24, least_24, shares}
-use Rattle.events.specs.declared.Event.{Event}
-use Rattle.events.specs.declared.Answer.{Answer}
 use Rattle.events.specs.declared.Answer.TheVariants.{Ticked}
-use Rattle.events.specs.declared.Left.TheVariants.{Nobody, Done, Cut}
+use Rattle.events.specs.declared.Left.TheVariants.{Done, Cut}
 use Rattle.events.specs.declared.TickAnswer.{TickAnswer}
-use Rattle.events.specs.declared.Turn.{Turn}
 use Rattle.events.specs.declared.Turn.TheVariants.{Run as Ran, Empty}
 use Rattle.events.specs.Answers.{no_of, starting_number}
 use Rattle.events.specs.Boxes.{after_in}
@@ -43,7 +39,7 @@ use Rattle.framerun.specs.declared.FrameState.{FrameState}
 use Rattle.framerun.specs.declared.FrameRun.{FrameRun}
 use Rattle.framerun.specs.declared.FrameAnswered.{FrameAnswered}
 use Rattle.framerun.specs.State.{queues_of, waiting_at, runs_at}
-use Rattle.framerun.specs.Tick.{Settled, settle, highest_task, turn_at, tick_taken, tick_of}
+use Rattle.framerun.specs.Tick.{Settled, settle, highest_task, turn_at, tick_taken}
 use Rattle.framerun.proofs.Taken.{tick_ind}
 use Rattle.framerun.proofs.Sound.{sound_table}
 use Rattle.framerun.specs.Sound.{frame_sound}

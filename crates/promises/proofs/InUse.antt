@@ -46,7 +46,7 @@ use Rattle.run.proofs.Taken.{release_cases, tick_cases}
 use Rattle.run.proofs.Shape.{RunShaped, event_run_shaped}
 use Rattle.run.proofs.Sound.{sound_table, sound_state_lem}
 use Rattle.run.proofs.Kept.{waiting_released}
-use Rattle.promises.specs.Condition2.{table, ByTheRules}
+use Rattle.promises.specs.Condition2.{ByTheRules}
 use Rattle.promises.specs.InUse.{SameRows, SameInUse, InUse, TablesInUse}
 use Rattle.promises.proofs.ByTheRules.{made, by_the_rules, held_shaped}
 use Rattle.promises.proofs.RulesSettle.{server_same, task_same, rules_settle}

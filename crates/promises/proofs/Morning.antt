@@ -40,7 +40,7 @@ use Rattle.run.specs.State.{waits}
 use Rattle.events.specs.Answers.{one, no_of, charged}
 use Rattle.run.specs.Release.{fresh_run}
 use Rattle.run.specs.Tick.{settle, choose, tick_taken}
-use Rattle.run.specs.Events.{event_of, after, answers}
+use Rattle.run.specs.Events.{event_of, after}
 use Rattle.events.specs.Count.{over_all}
 use Rattle.run.specs.Count.{discarded_of}
 use Rattle.run.specs.Found.{TakenTick, tick_taken_so, taken_by, taken_ticks}

@@ -19,9 +19,8 @@ use Rattle.run.specs.Sound.{sound, sound_state, sound_server, sound_task, sound_
 use Rattle.run.specs.Release.{start_of, release_of}
 use Rattle.run.specs.Tick.{judge, step1, drops, discards, step2, step3, step4, settle, able, highest_able, highest_task, choose}
 use Rattle.run.specs.Tick.{advance, tick_taken, tick_of}
-use Rattle.run.specs.Events.{after, answers}
 use Rattle.lines.specs.EventLine.{release_form, tick_form as tickLineForm, event_said, event_line, closed_lines, event_lines}
-use Rattle.lines.specs.Night.{answer_lines, night_lines, night, answer_lines_in}
+use Rattle.lines.specs.Night.{night_lines, night, answer_lines_in}
 use Rattle.table.specs.Example.{example}
 use Rattle.promises.specs.Example.{two}
 

@@ -9,7 +9,7 @@ use Rattle.text.specs.TableText.{ReadOf}
 use Rattle.slots.specs.Frame.{measuring, alarm_sending, panel, rule_of, owner_at, the_frame, held_by, stretch, assured}
 use Rattle.events.specs.declared.Event.{Event}
 use Rattle.events.specs.declared.Answer.TheVariants.{Released, Ticked, No}
-use Rattle.events.specs.declared.Left.TheVariants.{Nobody, Done, Cut}
+use Rattle.events.specs.declared.Left.TheVariants.{Done, Cut}
 use Rattle.events.specs.declared.TickAnswer.{TickAnswer}
 use Rattle.events.specs.declared.Turn.TheVariants.{Run as Ran, Empty}
 use Rattle.events.specs.Answers.{no_of, starting_number}
