@@ -2,36 +2,27 @@
 -- of the room are what the definition says of the lines so far. Assumes nothing.
 use mathlib.Core.Path.{◌≡◌, refl, sym, ap, ap₂, subst, ◌∙◌}
 use mathlib.Core.Bool.{true, false}
-use mathlib.Core.List.{List, [], ◌∷◌, ◌++◌, append_assoc, append-nil}
-use Prim.Native.Nat.{ℕ, zero, suc, ◌+◌, ◌*◌, ◌/◌, ◌≤◌, ◌<◌}
+use mathlib.Core.List.{List, [], ◌∷◌, ◌++◌}
+use Prim.Native.Nat.{ℕ, ◌+◌, ◌*◌, ◌/◌, ◌≤◌, ◌<◌}
 use native.Mathlib.Omega.{arith}
-use native.Mathlib.Nat.{mul-zero, zero-add, add-zero}
-use lib.ListN.{length, get_or, take, drop, take-append-drop, drop_of_length-le}
-use lib.Seq.{paste, take-paste, drop-paste, length-paste, take_all, drop-drop}
+use native.Mathlib.Nat.{zero-add, add-zero}
+use lib.ListN.{length, drop, drop_of_length-le}
+use lib.Seq.{paste}
 use borrow.Author.Tests.{le-leb, lt-leb}
 use Rattle.laws.proofs.Choice.{if_ind}
 use Rattle.table.specs.declared.Table.{Table}
 use Rattle.table.specs.declared.Refusal.TheVariants.{RoomShort, Unsound}
-use Rattle.events.specs.declared.Event.TheVariants.{Release}
 use Rattle.events.specs.declared.EventLine.{EventLine}
-use Rattle.events.specs.declared.EventLine.TheVariants.{Of}
-use Rattle.events.specs.declared.Left.{Left}
-use Rattle.events.specs.declared.Left.TheVariants.{Nobody, Done, Cut}
-use Rattle.events.specs.Boxes.{after_lines_in, told_all_in}
+use Rattle.events.specs.Boxes.{after_lines_in}
 use Rattle.run.specs.declared.Run.{Run}
 use Rattle.events.specs.declared.Taking.TheVariants.{Taken}
-use Rattle.events.specs.declared.TickAnswer.{TickAnswer}
 use Rattle.events.specs.declared.Told.{Told}
 use Rattle.events.specs.declared.Told.TheVariants.{No, Released, Ticked}
-use Rattle.events.specs.declared.Turn.{Turn}
-use Rattle.events.specs.declared.Turn.TheVariants.{Run as Ran, Empty, Idle}
 use Rattle.run.specs.Events.{the_box}
 use Rattle.run.specs.Sound.{sound}
-use Rattle.table.specs.Rows.{mode_value}
-use Rattle.events.specs.Values.{line_said, lines_said, turn_values, left_values, told_values}
+use Rattle.events.specs.Values.{lines_said, told_values}
 use Rattle.run.specs.Found.{TakenTick, found_values, all_found, all_told}
-use Rattle.run.specs.Many.{told_to, after_line, told_to_all, after_lines, untaken, taken, many_of}
-use Rattle.events.specs.Values.{all_values}
+use Rattle.run.specs.Many.{told_to, after_line, after_lines, untaken, taken, many_of}
 use Rattle.run.specs.Many.{ticks_at, ticks_among, unfound, taken_finding, find_of}
 use Rattle.run.proofs.Shape.{RunShaped}
 use Rattle.events.proofs.Values.{told_length, lines_length, Laid, laid_start, laid_on, laid_end}

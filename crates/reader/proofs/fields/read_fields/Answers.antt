@@ -1,0 +1,82 @@
+-- `reader::fields::read_fields` meets its contract: k fields are behind `at`, and those from there
+-- on give the rest; the line ends where it does seen from there. Assumes nothing.
+use mathlib.Core.Path.{◌≡◌, refl, sym, ap, ◌∙◌}
+use mathlib.Core.List.{List, map}
+use Prim.Native.Nat.{ℕ, ◌+◌}
+use native.Mathlib.Omega.{arith}
+use borrow.Author.Tests.{not-true, not-false}
+use lib.ListN.{length, drop}
+use Rattle.decimal.specs.Inner.Fields.{fields_from}
+use Rattle.decimal.proofs.Inner.Fields.{line_found}
+use Rattle.laws.specs.declared.Found.{Found}
+use Rattle.reader.specs.declared.fields.Fields.{Fields}
+use Rattle.reader.specs.Inner.Fields.{expected_of, line_end, counted, telling, passed}
+use Rattle.reader.proofs.Inner.Fields.{noted_by, pass-next, pass-last, pass_over, line-next, line-last, next-within}
+use Rattle.reader.proofs.fields.read_fields.Goals as goal
+
+pub loop-k-init : goal.loop-k-init
+loop-k-init c = (omega arith, omega arith, refl, refl)
+
+-- what the fields before k gave
+abbrev before : Found → List ℕ → ℕ → List ℕ → ℕ → Fields
+before wrong values k text from = record { wrong = wrong; values = values; count = k; end = line_end text from }
+
+pub returns-then-not-f : goal.returns-then-not-f
+returns-then-not-f c =
+    let f = c.read_field-f in
+    let l = c.loop-k in
+    let a = c.args in
+    let none = not-true _ c.if-not-f.true in
+    let b = before l.wrong l.values l.k a.text.now a.from in
+    let with_it = noted_by b l.k f.result.number
+    c.first_wrong-wrong.result c.value_in.result c.first_wrong-wrong.ensures c.value_in.ensures in
+    let ends = line-last a.least a.text.now a.shape.now l.k l.at b f.result
+    (omega arith) f.ensures none in
+    rw (c.count-told.ensures, sym (l.invariant.3 ∙ ends))
+    (ap (λ (x : Fields). telling (counted a.least (l.k + 1) x.wrong) x) with_it
+    ∙ sym
+    (l.invariant.2
+    ∙ pass-last a.least a.text.now a.shape.now l.k l.at b f.result (omega arith) f.ensures none))
+
+-- a field is followed by another within the text
+pub overflow_add-at : goal.overflow_add-at
+overflow_add-at c =
+    let f = c.read_field-f in
+    let l = c.loop-k in
+    let a = c.args in
+    let onward = next-within a.least a.text.now a.shape.now l.k l.at
+    (before l.wrong l.values l.k a.text.now a.from) f.result (omega arith) f.ensures (not-false _ c.if-not-f.false) in
+    record { fits = omega (arith, onward) }
+
+pub loop-k-preserved : goal.loop-k-preserved
+loop-k-preserved c =
+    let f = c.read_field-f in
+    let l = c.loop-k in
+    let a = c.args in
+    let more = not-false _ c.if-not-f.false in
+    let b = before l.wrong l.values l.k a.text.now a.from in
+    let with_it = noted_by b l.k f.result.number
+    c.first_wrong-wrong.result c.value_in.result c.first_wrong-wrong.ensures c.value_in.ensures in
+    let onward = next-within a.least a.text.now a.shape.now l.k l.at b f.result (omega arith) f.ensures more in (
+      omega arith,
+      omega (arith, onward),
+      l.invariant.2
+          ∙ pass-next a.least a.text.now a.shape.now l.k l.at b f.result (omega arith) f.ensures more
+          ∙ ap
+          (λ x. passed a.least (map expected_of (drop (l.k + 1) a.shape.now)) (l.k + 1) x
+          (fields_from a.text.now (f.result.end.at + 1)))
+          (sym with_it),
+      l.invariant.3
+          ∙ line-next a.least a.text.now a.shape.now l.k l.at b f.result (omega arith) f.ensures more,
+    )
+
+pub returns : goal.returns
+returns c =
+    let l = c.loop-k in
+    let a = c.args in
+    let ends = line_found a.text.now l.at c.find-end.result c.find-end.ensures.value l.invariant.1 (c.find-end.ensures.upper_bound l.invariant.1) in
+    let all : length a.shape.now ≡ l.k = omega arith in
+    rw (all, sym (l.invariant.3 ∙ ends))
+    (pass_over a.least a.text.now a.shape.now l.k l.at
+    (before l.wrong l.values l.k a.text.now a.from) (omega arith)
+    ∙ sym l.invariant.2)

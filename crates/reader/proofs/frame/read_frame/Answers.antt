@@ -1,0 +1,174 @@
+-- `reader::frame::read_frame` meets its contract: t holds the rows of the lines before line n, which
+-- begins at `at`, so what the text says is what is said from there on. Assumes nothing.
+use mathlib.Core.Path.{◌≡◌, sym, ap, subst, ◌∙◌}
+use mathlib.Core.List.{List}
+use Prim.Native.Nat.{ℕ, ◌+◌, ◌≤◌}
+use native.Mathlib.Omega.{arith}
+use lib.Arith.{lt_of_le-ne}
+use lib.ListN.{length, drop, length-drop}
+use Rattle.decimal.specs.Lines.{line_feed, split}
+use Rattle.decimal.specs.Inner.Fields.{first_line}
+use Rattle.decimal.proofs.Inner.Fields.{line_within}
+use Rattle.table.specs.declared.Standing.TheVariants.{Kept}
+use Rattle.text.proofs.TableText.{text_long, text_short}
+use Rattle.frametable.specs.declared.FrameTable.{FrameTable}
+use Rattle.frametable.specs.declared.FrameTaskLine.{FrameTaskLine}
+use Rattle.frametable.specs.declared.FrameLine.{FrameLine}
+use Rattle.frametable.specs.declared.FrameLine.TheVariants.{OfTask}
+use Rattle.frametable.specs.Rows.{frame_rows_of, frame_table_of}
+use Rattle.frametable.specs.Text.{frame_standing, frame_grown, frame_text, frame_read, frame_shown}
+use Rattle.reader.specs.Inner.Frame.{FrameAbove}
+use Rattle.reader.proofs.FrameText.{frame_line_lent, frame_table_rows, frame_standing_by_lem, frame_starts, frame_starts_from}
+use Rattle.reader.proofs.FrameText.{FrameTaskGrows, frame_task_grows, frame_above_next, frame_put_tick, frame_put_task, frame_put_none}
+use Rattle.reader.proofs.TableText.{from-unclosed, from_end, from-broken, from_kept}
+use Rattle.reader.proofs.frame.read_frame.Goals as goal
+use Rattle.reader.proofs.frame.read_frame.Goals.{in-OfTick, in-OfTask, in-Malformed}
+
+-- where a line ends
+within : (text : List ℕ) (at end : ℕ) → end ≡ length (first_line (drop at text)) → at ≤ length text → at + end ≤ length text
+within text at end e h = omega (arith, e, line_within (drop at text), length-drop at text)
+
+-- a line that is kept has room for its row
+task_room : (n : ℕ) (t : FrameTable) (x : FrameLine) (k : FrameTaskLine) → FrameAbove n t → frame_standing n (frame_rows_of t) x ≡ Kept →
+    x ≡ OfTask k → FrameTaskGrows t k
+task_room n t x k a h e = frame_task_grows n t a k (rw e at h)
+
+pub returns-then-text-gt-LONGEST_TEXT : goal.returns-then-text-gt-LONGEST_TEXT
+unfolding frame_read
+returns-then-text-gt-LONGEST_TEXT c =
+    c.refuse.ensures ∙ ap frame_shown (text_long frame_text c.args.text.now c.if-text-gt-LONGEST_TEXT.true)
+
+pub loop-at-init : goal.loop-at-init
+loop-at-init c = (
+  omega arith,
+  omega arith,
+  frame_starts c.no_frame_table-t.result c.no_frame_table-t.ensures,
+  frame_starts_from c.no_frame_table-t.result (split line_feed c.args.text.now) c.no_frame_table-t.ensures,
+)
+
+pub end-requires : goal.end-requires
+end-requires c = c.loop-at.invariant.2
+
+pub returns-then-at-text : goal.returns-then-at-text
+unfolding frame_read
+returns-then-at-text c =
+    let l = c.loop-at in
+    let s = c.args.text.now in
+    c.end.ensures
+    ∙ ap frame_shown
+    (from_end frame_text l.n (frame_rows_of l.t) s l.at (omega arith)
+    ∙ sym l.invariant.3
+    ∙ text_short frame_text s c.if-text-gt-LONGEST_TEXT.false)
+
+pub overflow_add-e : goal.overflow_add-e
+overflow_add-e c =
+    let l = c.loop-at in
+    let said = frame_line_lent c.args.text.now l.at c.read_line-r.result c.read_line-r.ensures in
+    let ends = within c.args.text.now l.at _ said.1 l.invariant.0 in
+    record { fits = omega (arith, ends, c.if-text-gt-LONGEST_TEXT.false) }
+
+pub returns-then-e-text : goal.returns-then-e-text
+unfolding frame_read
+returns-then-e-text c =
+    let l = c.loop-at in
+    let s = c.args.text.now in
+    let said = frame_line_lent s l.at c.read_line-r.result c.read_line-r.ensures in
+    c.refuse-then-e-text.ensures
+    ∙ ap frame_shown
+    (from-unclosed frame_text l.n (frame_rows_of l.t) s l.at (l.at + c.read_line-r.result.end) (ap (λ x. l.at + x) said.1)
+    (omega (arith, c.if-e-text.true)) (lt_of_le-ne l.invariant.0 c.if-at-text.false)
+    ∙ sym l.invariant.3
+    ∙ text_short frame_text s c.if-text-gt-LONGEST_TEXT.false)
+
+pub line_standing-standing-requires : goal.line_standing-standing-requires
+line_standing-standing-requires c = let r = c.loop-at.invariant.2 in r.below
+
+pub returns-in-Broken : goal.returns-in-Broken
+unfolding frame_read
+returns-in-Broken c =
+    let l = c.loop-at in
+    let s = c.args.text.now in
+    let x = c.read_line-r.result.line in
+    let said = frame_line_lent s l.at c.read_line-r.result c.read_line-r.ensures in
+    let ends = within s l.at _ said.1 l.invariant.0 in
+    c.refuse-in-Broken.ensures
+    ∙ ap frame_shown
+    (from-broken frame_text l.n (frame_rows_of l.t) s l.at (l.at + c.read_line-r.result.end) (ap (λ x. l.at + x) said.1)
+    x c.in-Broken.why c.in-Broken.field (lt_of_le-ne ends c.if-e-text.false) said.0
+    (sym (c.line_standing-standing.ensures ∙ frame_standing_by_lem l.t l.invariant.2.whole l.n _) ∙ c.in-Broken.is)
+    ∙ sym l.invariant.3
+    ∙ text_short frame_text s c.if-text-gt-LONGEST_TEXT.false)
+
+pub task_row-requires : goal.task_row-requires
+task_row-requires c =
+    let l = c.loop-at in
+    let kept = sym (c.line_standing-standing.ensures ∙ frame_standing_by_lem l.t l.invariant.2.whole l.n _) ∙ c.in_default.is in
+    let g = task_room l.n l.t c.read_line-r.result.line c.in-OfTask.k l.invariant.2 kept c.in-OfTask.is in
+    (g.tick, g.keeps)
+
+pub offset_bounds-t-count : goal.offset_bounds-t-count
+offset_bounds-t-count c =
+    let l = c.loop-at in
+    let kept = sym (c.line_standing-standing.ensures ∙ frame_standing_by_lem l.t l.invariant.2.whole l.n _) ∙ c.in_default.is in
+    let g = task_room l.n l.t c.read_line-r.result.line c.in-OfTask.k l.invariant.2 kept c.in-OfTask.is in
+    record { fits = omega (arith, g.room) }
+
+pub bounds-t-count : goal.bounds-t-count
+bounds-t-count c =
+    let l = c.loop-at in
+    let kept = sym (c.line_standing-standing.ensures ∙ frame_standing_by_lem l.t l.invariant.2.whole l.n _) ∙ c.in_default.is in
+    let g = task_room l.n l.t c.read_line-r.result.line c.in-OfTask.k l.invariant.2 kept c.in-OfTask.is in
+    g.room
+
+pub overflow_add-t : goal.overflow_add-t
+overflow_add-t c =
+    let l = c.loop-at in
+    let kept = sym (c.line_standing-standing.ensures ∙ frame_standing_by_lem l.t l.invariant.2.whole l.n _) ∙ c.in_default.is in
+    let g = task_room l.n l.t c.read_line-r.result.line c.in-OfTask.k l.invariant.2 kept c.in-OfTask.is in
+    record { fits = omega (arith, g.room) }
+
+pub overflow_add-at : goal.overflow_add-at
+overflow_add-at c =
+    let l = c.loop-at in
+    let said = frame_line_lent c.args.text.now l.at c.read_line-r.result c.read_line-r.ensures in
+    let ends = lt_of_le-ne (within c.args.text.now l.at _ said.1 l.invariant.0) c.if-e-text.false in
+    record { fits = omega (arith, ends, c.if-text-gt-LONGEST_TEXT.false) }
+
+pub overflow_add-n : goal.overflow_add-n
+overflow_add-n c =
+    let l = c.loop-at in
+    record { fits = omega (arith, l.invariant.0, l.invariant.1, c.if-text-gt-LONGEST_TEXT.false) }
+
+pub loop-at-smaller : goal.loop-at-smaller
+loop-at-smaller c =
+    let l = c.loop-at in
+    let said = frame_line_lent c.args.text.now l.at c.read_line-r.result c.read_line-r.ensures in
+    let ends = lt_of_le-ne (within c.args.text.now l.at _ said.1 l.invariant.0) c.if-e-text.false in
+    omega (arith, ends, l.invariant.0)
+
+-- the table with the line's row
+pub loop-at-preserved : goal.loop-at-preserved
+loop-at-preserved c =
+    let l = c.loop-at in
+    let s = c.args.text.now in
+    let x = c.read_line-r.result.line in
+    let above = l.invariant.2 in
+    let said = frame_line_lent s l.at c.read_line-r.result c.read_line-r.ensures in
+    let ends = lt_of_le-ne (within s l.at _ said.1 l.invariant.0) c.if-e-text.false in
+    let kept = sym (c.line_standing-standing.ensures ∙ frame_standing_by_lem l.t l.invariant.2.whole l.n _) ∙ c.in_default.is in
+    let put : c.match-l.t ≡ frame_table_of (frame_grown (frame_rows_of l.t) x) =
+    elim c.match-l.branch [
+      | in-OfTick w ↦ w.t-is ∙ frame_put_tick l.t (frame_rows_of l.t) above.whole x _ w.in-OfTick.is
+      | in-OfTask w ↦
+          w.t-is ∙ frame_put_task l.t (frame_rows_of l.t) above.whole x _ _ w.in-OfTask.is
+          (task_room l.n l.t x _ above kept w.in-OfTask.is).room w.task_row.ensures
+      | in-Malformed w ↦ w.t-is ∙ frame_put_none l.t (frame_rows_of l.t) above.whole x _ _ w.in-Malformed.is
+    ] in (
+      omega (arith, ends),
+      omega arith,
+      subst (FrameAbove (l.n + 1)) (sym put) (frame_above_next l.n l.t x above kept),
+      l.invariant.3
+          ∙ from_kept frame_text l.n (frame_rows_of l.t) s l.at (l.at + c.read_line-r.result.end)
+          (ap (λ x. l.at + x) said.1) x (frame_rows_of c.match-l.t) ends said.0 kept
+          (ap frame_rows_of put ∙ frame_table_rows (frame_grown (frame_rows_of l.t) x)),
+    )

@@ -1,0 +1,21 @@
+-- `reader::frame::tick_line` meets its contract: the first field that is wrong is told, and where none
+-- is, the numbers of the fields are what the line says. Assumes nothing.
+use Rattle.text.specs.Line.{tick_form}
+use Rattle.reader.proofs.FrameText.{frame_lined, frame_tick_wrong, frame_tick_read}
+use Rattle.reader.proofs.frame.tick_line.Goals as goal
+
+pub returns-in-At : goal.returns-in-At
+unfolding tick_form
+returns-in-At c =
+    let a = c.args in
+    frame_lined tick_form a.text.now a.from c.read_fields-f.result c.read_fields-f.ensures _ _
+    (frame_tick_wrong a.text.now a.from c.read_fields-f.result c.read_fields-f.ensures _
+    c.in-At.is)
+
+pub returns : goal.returns
+unfolding tick_form
+returns c =
+    let a = c.args in
+    frame_lined tick_form a.text.now a.from c.read_fields-f.result c.read_fields-f.ensures _ _
+    (frame_tick_read a.text.now a.from c.read_fields-f.result c.read_fields-f.ensures
+    c.in_default.is)
