@@ -1,23 +1,23 @@
 -- The steps of a frame box on the parts of its run, case by case as the code asks. Assumes nothing.
-use mathlib.Core.Path.{◌≡◌, refl, sym, ap, ap₂, subst, ◌∙◌}
+use mathlib.Core.Path.{◌≡◌, refl, sym, ap, subst, ◌∙◌}
 use mathlib.Core.Bool.{Bool, true, false, not, ◌&&◌, ◌||◌}
 use mathlib.Core.List.{List, [], ◌∷◌}
 use mathlib.Core.Logic.{◌⊎◌, inl, inr}
-use Prim.Native.Nat.{ℕ, zero, suc, ◌+◌, ◌*◌, ◌-◌, ◌/◌, ◌≤◌, ◌<◌}
+use Prim.Native.Nat.{ℕ, ◌+◌, ◌*◌, ◌/◌, ◌≤◌, ◌<◌}
 use native.Mathlib.Omega.{arith}
-use lib.Dec.{leb, ltb, eqb}
-use lib.ListN.{length, get_or, set, length-set}
+use lib.Dec.{ltb, eqb}
+use lib.ListN.{length, get_or}
 use borrow.Author.Tests.{ltb-true, ltb-false, lt-ltb, le-ltb, le-leb, lt-leb, eq-eqb, ne_eqb}
 use Rattle.laws.specs.declared.Found.{Found}
 use Rattle.laws.specs.declared.Found.TheVariants.{At, Nothing}
 use Rattle.laws.specs.Choice.{every, within}
-use Rattle.laws.specs.Rows.{all_below, anew}
+use Rattle.laws.specs.Rows.{anew}
 use Rattle.laws.proofs.Choice.{and_left, and_right, true_or_false, within_high}
 use Rattle.laws.proofs.Highest.{Top, top_skip, top_take, top_keep}
 use Rattle.table.specs.declared.Refusal.TheVariants.{NoTask, QueueFull, NoJobRan, CountSpent, Unsound, RoomShort}
 use Rattle.table.specs.declared.Mode.TheVariants.{N}
 use Rattle.slots.specs.Frame.{owner_at}
-use Rattle.events.specs.declared.Answer.TheVariants.{Released, Ticked, No}
+use Rattle.events.specs.declared.Answer.TheVariants.{Released, Ticked}
 use Rattle.events.specs.declared.Left.{Left}
 use Rattle.events.specs.declared.Left.TheVariants.{Nobody, Done, Cut}
 use Rattle.events.specs.declared.Starting.TheVariants.{Started, Refused}
@@ -40,7 +40,6 @@ use Rattle.queues.proofs.Inner.{waiting_left, runs_left}
 use Rattle.queues.proofs.Queues.{anew_one, unchanged}
 use Rattle.queues.proofs.Sound.{LastSound}
 use Rattle.frametable.specs.declared.FrameTable.{FrameTable}
-use Rattle.frametable.specs.Inner.{FrameSized}
 use Rattle.frametable.specs.Rows.{frame_rows_of, partition_at, frame_priority_at, frame_limit_at}
 use Rattle.frametable.specs.Rules.{frame_keeps, frame_table_keeps}
 use Rattle.frametable.proofs.Rules.{FrameTableRules, frame_table_rules}
@@ -54,11 +53,10 @@ use Rattle.framerun.specs.Tick.{Settled, settle, highest_task, turn_at, advance,
 use Rattle.framerun.specs.Events.{event_of, frame_box}
 use Rattle.framerun.specs.Many.{untaken, taken, frame_many_of}
 use Rattle.framerun.proofs.Sound.{StateSound, sound_table, sound_state_lem}
-use Rattle.framerun.proofs.Tick.{Shaped, settle_alike, settled_row, RunsFront, found_front}
+use Rattle.framerun.proofs.Tick.{Shaped, settled_row, found_front}
 use Rattle.framerun.proofs.Kept.{FrameShaped, Good, event_keeps}
 use Rattle.framescheduler.specs.declared.steps.Head.{Head}
-use Rattle.framescheduler.specs.declared.steps.Step.{Step}
-use Rattle.framescheduler.specs.Inner.{tasks_sound, state_of, head_of, run_of, stepped, LastLow, Settles, Numbered, highest_in}
+use Rattle.framescheduler.specs.Inner.{tasks_sound, state_of, head_of, run_of, LastLow, Settles, Numbered, highest_in}
 use Rattle.framescheduler.specs.Inner.{TurnLow, RunsOn, SoundRun}
 
 -- a start
