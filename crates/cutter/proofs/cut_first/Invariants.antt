@@ -1,10 +1,7 @@
 -- `cutter::cut_first` meets its contract: what is cut in all is what stands, and what is cut
 -- from the rest (Cutting.antt). The measure is the room that is left. Assumes nothing.
 use Prim.Native.Nat.{◌-◌}
-use native.Mathlib.Omega.{arith}
-use lib.Arith.{lt_of_le-ne}
-use borrow.Author.Rules.{rules}
-use Rattle.lines.proofs.Cutting.{Going, going_start, going_line, going_rest, going_full}
+use Rattle.lines.proofs.Cutting.{Going}
 use Rattle.cutter.proofs.cut_first.Given as goal
 
 abbrev pub invariant-loop-many : goal.invariant-loop-many

@@ -1,6 +1,5 @@
 -- `cutter::cut_lines` meets its contract: no byte to take, 12, and the lines. Assumes nothing.
 use mathlib.Core.Path.{◌∙◌}
-use borrow.Author.Rules.{rules}
 use Rattle.lines.proofs.Cutting.{cut_empty, cut_short, cut_long}
 use Rattle.cutter.proofs.cut_lines.Goals as goal
 

@@ -1,12 +1,11 @@
 -- `cutter::hold` meets its contract: before place i the places from the held bytes on are as
 -- they will be (Held.antt). Assumes nothing.
 use mathlib.Core.Path.{◌≡◌, ◌∙◌}
-use Prim.Native.Nat.{◌-◌}
 use native.Mathlib.Omega.{arith}
 use lib.ListN.{length}
 use borrow.Author.Rules.{rules}
 use Rattle.lines.specs.HeldLine.{longest}
-use Rattle.lines.proofs.HeldLine.{Holding, holding_start, holding_next, holding_done, past_long, past_part}
+use Rattle.lines.proofs.HeldLine.{holding_start, holding_next, holding_done, past_long, past_part}
 use Rattle.cutter.proofs.hold.Goals as goal
 use Rattle.cutter.proofs.hold.Goals.{Start}
 

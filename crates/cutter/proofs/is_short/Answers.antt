@@ -1,6 +1,5 @@
 -- `cutter::is_short` meets its contract: length, tab and digit, one test after the other. Assumes
 -- nothing.
-use borrow.Author.Rules.{rules}
 use Rattle.cutter.proofs.Inner.{not_three, no_tab, below_digits, up_to_nine}
 use Rattle.cutter.proofs.is_short.Goals as goal
 

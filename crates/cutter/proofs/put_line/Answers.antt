@@ -5,7 +5,6 @@ use mathlib.Core.List.{◌++◌}
 use native.Mathlib.Omega.{arith}
 use lib.ListN.{get_or, length-set}
 use lib.Seq.{sets}
-use borrow.Author.Rules.{rules}
 use Rattle.events.specs.Values.{line_values}
 use Rattle.lines.specs.EventLine.{event_line}
 use Rattle.lines.specs.HeldLine.{line_in}

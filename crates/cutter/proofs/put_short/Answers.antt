@@ -3,7 +3,6 @@
 use Prim.Native.Nat.{◌+◌, ◌*◌, ◌≤◌}
 use native.Mathlib.Omega.{arith}
 use lib.ListN.{length-set}
-use borrow.Author.Rules.{rules}
 use Rattle.cutter.proofs.Inner.{Short, short, short_stored, tick_small, value_small}
 use Rattle.cutter.proofs.put_short.Goals as goal
 use Rattle.cutter.proofs.put_short.Goals.{After-one_if-2, Start}

@@ -9,7 +9,6 @@ use lib.Seq.{take_all}
 use Rattle.decimal.specs.Number.{read_number}
 use Rattle.lines.proofs.EventLine.{Found, said_short, said_no_tab, said_no_number}
 use Rattle.lines.proofs.EventLine.{said_no_letter, said_release, said_tick, said_mark}
-use borrow.Author.Rules.{rules}
 use Rattle.cutter.proofs.read_event.Goals as goal
 use Rattle.cutter.proofs.read_event.Goals.{In-Value}
 

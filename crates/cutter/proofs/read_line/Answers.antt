@@ -2,7 +2,6 @@
 -- say. Assumes nothing.
 use mathlib.Core.Path.{sym, ap, ◌∙◌}
 use mathlib.Core.List.{◌++◌}
-use borrow.Author.Rules.{rules}
 use Rattle.lines.specs.EventLine.{event_line}
 use Rattle.lines.specs.HeldLine.{line_in}
 use Rattle.lines.proofs.HeldLine.{empty_held, held_says_lem}

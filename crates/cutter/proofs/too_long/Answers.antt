@@ -1,7 +1,6 @@
 -- `cutter::too_long` meets its contract: its length is one more than the longest. Assumes
 -- nothing.
 use mathlib.Core.Path.{refl}
-use borrow.Author.Rules.{rules}
 use Rattle.lines.specs.HeldLine.{longest, too_long}
 use Rattle.cutter.proofs.too_long.Goals as goal
 

@@ -1,6 +1,5 @@
 -- `printer::print_first` meets its contract: before line i the first i are stored (Printing.antt).
 -- Assumes nothing.
-use Prim.Native.Nat.{◌-◌}
 use Rattle.printer.proofs.Printing.{Printing}
 use Rattle.printer.proofs.print_first.Given as goal
 

@@ -1,7 +1,7 @@
 -- `printer::store_all` meets its contract: before byte i the first i bytes are stored. Assumes
 -- nothing.
 use mathlib.Core.Path.{◌≡◌}
-use Prim.Native.Nat.{◌-◌, ◌≤◌}
+use Prim.Native.Nat.{◌≤◌}
 use lib.ListN.{length, take}
 use lib.Seq.{sets}
 use Rattle.printer.proofs.store_all.Given as goal

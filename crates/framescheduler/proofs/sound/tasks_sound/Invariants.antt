@@ -2,7 +2,7 @@
 -- decides. Assumes nothing.
 use mathlib.Core.Path.{◌≡◌}
 use mathlib.Core.Bool.{true}
-use Prim.Native.Nat.{◌-◌, ◌≤◌}
+use Prim.Native.Nat.{◌≤◌}
 use Rattle.framescheduler.specs.Inner.{tasks_sound}
 use Rattle.framescheduler.proofs.sound.tasks_sound.Given as goal
 

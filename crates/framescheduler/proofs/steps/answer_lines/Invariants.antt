@@ -1,7 +1,7 @@
 -- `framescheduler::steps::answer_lines` meets its contract: after each line the parts of the run and the room
 -- are what the definition says of the lines so far. Assumes nothing.
 use mathlib.Core.Path.{◌≡◌}
-use Prim.Native.Nat.{◌/◌, ◌≤◌, ◌-◌}
+use Prim.Native.Nat.{◌/◌, ◌≤◌}
 use lib.ListN.{length}
 use Rattle.slots.specs.Frame.{the_frame}
 use Rattle.events.specs.Values.{lines_said}

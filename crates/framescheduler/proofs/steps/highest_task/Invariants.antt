@@ -1,6 +1,6 @@
 -- `framescheduler::steps::highest_task` meets its contract: the walk keeps the highest such task among those
 -- passed. Assumes nothing.
-use Prim.Native.Nat.{◌≤◌, ◌-◌}
+use Prim.Native.Nat.{◌≤◌}
 use Rattle.laws.proofs.Highest.{Top}
 use Rattle.frametable.specs.Rows.{frame_priority_at}
 use Rattle.framescheduler.proofs.Inner.{waits_of}

@@ -1,8 +1,0 @@
--- `cutter::byte_at` meets its contract: past the end a byte is 0. Assumes nothing.
-use mathlib.Core.Path.{sym}
-use lib.ListN.{get_or-eq_default}
-use borrow.Author.Rules.{rules}
-use Rattle.cutter.proofs.byte_at.Goals as goal
-
-pub returns : goal.returns
-returns c = sym (get_or-eq_default c.args.part.now 0 c.if-k-part.false)
