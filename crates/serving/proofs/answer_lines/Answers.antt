@@ -13,21 +13,21 @@ use Rattle.run.specs.Sound.{sound}
 use Rattle.events.specs.Values.{lines_said}
 use Rattle.run.specs.Events.{the_box}
 use Rattle.lines.specs.Serving.{batch}
-use Rattle.lines.specs.Inner.{is_taken}
+use Rattle.lines.specs.Inner.{Fit, is_taken}
 use Rattle.serving.specs.Buffer.{service_of}
 use Rattle.events.proofs.Values.{line_values_length}
 use Rattle.lines.proofs.Serving.{Telling, told-sound, told-unsound, printed_text}
 use Rattle.lines.proofs.Serving.{cut-unsound, cut-refused, cut-answered}
 use Rattle.serving.proofs.Inner.{many_told}
 use Rattle.serving.proofs.answer_lines.Goals as goal
-use Rattle.serving.proofs.answer_lines.Goals.{After-answer_many-m, In-Taken, Start}
+use Rattle.serving.proofs.answer_lines.Goals.{After-answer_many-m, In-Taken}
 
 -- two numbers a line, and there is room for what is told
-half : (c : Start) → length c.args.lines.now / 2 ≡ length (lines_said c.args.lines.now)
-half c = omega (arith, ap length c.requires.said, line_values_length (lines_said c.args.lines.now))
+half : (xs : List ℕ) (m : ℕ) → Fit xs m → length xs / 2 ≡ length (lines_said xs)
+half xs m f = omega (arith, ap length f.said, line_values_length (lines_said xs))
 
-fits : (c : Start) → 9 * length (lines_said c.args.lines.now) ≤ length (replicate {A = ℕ} (9 * batch) 0)
-fits c = omega (arith, c.requires.few, length-replicate {A = ℕ} (9 * batch) 0)
+fits : (xs : List ℕ) (m : ℕ) → Fit xs m → 9 * length (lines_said xs) ≤ length (replicate {A = ℕ} (9 * batch) 0)
+fits xs m f = omega (arith, f.few, length-replicate {A = ℕ} (9 * batch) 0)
 
 -- what the run told
 telling : (c : After-answer_many-m) →
@@ -38,7 +38,7 @@ unfolding batch
 telling c =
     let a = c.args in
     let m = c.answer_many-m in
-    many_told a.r a.lines.now (replicate (9 * batch) 0) (fits c) m.result m.new.told m.ensures
+    many_told a.r a.lines.now (replicate (9 * batch) 0) (fits a.lines.now _ c.requires) m.result m.new.told m.ensures
 
 pub returns-in_default : goal.returns-in_default
 returns-in_default c =
@@ -50,9 +50,12 @@ returns-in_default c =
 
 -- a run that answered is sound
 is_sound : (c : In-Taken) → sound c.args.r ≡ true
+unfolding batch
 is_sound c =
     let a = c.args in
-    told-sound the_box a.r (lines_said a.lines.now) _ _ _ (telling c) c.in-Taken.is
+    let m = c.answer_many-m in
+    told-sound the_box a.r (lines_said a.lines.now) _ _ _ (many_told a.r a.lines.now (replicate (9 * batch) 0)
+    (fits a.lines.now _ c.requires) m.result m.new.told m.ensures) c.in-Taken.is
 
 pub returns-in_default-cut : goal.returns-in_default-cut
 returns-in_default-cut c =
@@ -66,7 +69,7 @@ told_room : (c : After-answer_many-m) → 9 * (length c.args.lines.now / 2) ≤ 
     c.answer_many-m.new.told
 unfolding batch
 told_room c =
-    omega (arith, half c, fits c, length-replicate {A = ℕ} (9 * batch) 0, c.answer_many-m.auto.told)
+    omega (arith, half c.args.lines.now _ c.requires, fits c.args.lines.now _ c.requires, length-replicate {A = ℕ} (9 * batch) 0, c.answer_many-m.auto.told)
 
 pub slice_bounds-told-end : goal.slice_bounds-told-end
 slice_bounds-told-end c = told_room (goal.at.slice_bounds-told-end c).After-answer_many-m
@@ -78,7 +81,7 @@ pub returns : goal.returns
 returns c =
     let a = c.args in
     let ls = lines_said a.lines.now in
-    let n : 9 * (length a.lines.now / 2) ≡ 9 * length ls = omega (arith, half (goal.at.returns c).Start) in
+    let n : 9 * (length a.lines.now / 2) ≡ 9 * length ls = omega (arith, half a.lines.now _ c.requires) in
     let text =
     printed_text the_box a.r a.lines.now _ a.room.now c.requires
     (ap (λ k. take k c.answer_many-m.new.told) n ∙ (telling (goal.at.returns c).After-answer_many-m).front (is_sound (goal.at.returns c).In-Taken)) _ _

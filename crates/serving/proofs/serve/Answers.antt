@@ -12,33 +12,32 @@ use Rattle.lines.specs.Serving.{batch, lines_at_once}
 use Rattle.lines.proofs.Serving.{cut_many, cut_fits, cut_served}
 use Rattle.serving.specs.Buffer.{buffered_of}
 use Rattle.serving.proofs.serve.Goals as goal
-use Rattle.serving.proofs.serve.Goals.{After-cut_lines-c, After-lines_at_once-most}
+use Rattle.serving.proofs.serve.Goals.{After-cut_lines-c}
 
 -- the numbers before any line is cut
 abbrev zeros : List ℕ
 zeros = replicate (2 * batch) 0
 
-few : (c : After-lines_at_once-most) → c.lines_at_once-most.result ≤ batch
-few c = omega (arith, c.lines_at_once-most.ensures)
+few : (n m : ℕ) → n ≡ lines_at_once m → n ≤ batch
+few n m e = omega (arith, e)
 
 -- the part that is lent
-lent_long : (c : After-lines_at_once-most) → length (take
-    (2 * c.lines_at_once-most.result) zeros) ≡ 2 * c.lines_at_once-most.result
-lent_long c =
-    length-take-le (2 * c.lines_at_once-most.result) zeros
-    (omega (arith, few c, length-replicate {A = ℕ} (2 * batch) 0))
+lent_long : (n m : ℕ) → n ≡ lines_at_once m → length (take (2 * n) zeros) ≡ 2 * n
+lent_long n m e =
+    length-take-le (2 * n) zeros
+    (omega (arith, few n m e, length-replicate {A = ℕ} (2 * batch) 0))
 
 pub overflow_mul-values : goal.overflow_mul-values
 unfolding batch
-overflow_mul-values c = record { fits = omega (arith, few (goal.at.overflow_mul-values c).After-lines_at_once-most) }
+overflow_mul-values c = record { fits = omega (arith, few _ _ c.lines_at_once-most.ensures) }
 
 pub slice_bounds-values-end : goal.slice_bounds-values-end
 unfolding batch
-slice_bounds-values-end c = omega (arith, few (goal.at.slice_bounds-values-end c).After-lines_at_once-most)
+slice_bounds-values-end c = omega (arith, few _ _ c.lines_at_once-most.ensures)
 
 pub slice_bounds-cut_lines-end : goal.slice_bounds-cut_lines-end
 unfolding batch
-slice_bounds-cut_lines-end c = sym (lent_long (goal.at.slice_bounds-cut_lines-end c).After-lines_at_once-most)
+slice_bounds-cut_lines-end c = sym (lent_long _ _ c.lines_at_once-most.ensures)
 
 -- what is lent of the numbers, and all of them after it
 abbrev lent : After-cut_lines-c → List ℕ
@@ -48,7 +47,7 @@ abbrev rest : After-cut_lines-c → List ℕ
 rest c = drop (2 * c.lines_at_once-most.result) zeros
 
 long : (c : After-cut_lines-c) → length (lent c) ≡ 2 * lines_at_once (length c.args.room.now)
-long c = lent_long c ∙ ap (λ n. 2 * n) c.lines_at_once-most.ensures
+long c = lent_long _ _ c.lines_at_once-most.ensures ∙ ap (λ n. 2 * n) c.lines_at_once-most.ensures
 
 many : (c : After-cut_lines-c) → c.cut_lines-c.result.many ≤ lines_at_once (length c.args.room.now)
 unfolding batch
