@@ -2,11 +2,10 @@
 -- (crate lines, proofs/Serving.antt). Assumes nothing.
 use mathlib.Core.Path.{◌≡◌, refl, sym, ap, ◌∙◌}
 use mathlib.Core.List.{List, ◌++◌}
-use Prim.Native.Nat.{ℕ, ◌+◌, ◌*◌, ◌≤◌}
+use Prim.Native.Nat.{ℕ, ◌*◌, ◌≤◌}
 use native.Mathlib.Omega.{arith}
 use lib.ListN.{length, take, drop, replicate, length-replicate, length-append}
 use lib.Seq.{length-take-le}
-use borrow.Author.Rules.{rules}
 use Rattle.run.specs.Events.{the_box}
 use Rattle.lines.specs.Serving.{batch, lines_at_once}
 use Rattle.lines.proofs.Serving.{cut_many, cut_fits, cut_served}
