@@ -4,6 +4,7 @@ use mathlib.Core.Path.{refl, ap, sym, ◌∙◌}
 use Rattle.decimal.proofs.read_number
 use Rattle.decimal.proofs.field_end
 use Rattle.decimal.proofs.read_field
+use Rattle.decimal.proofs.find
 use Rattle.decimal.proofs.is_same
 use Rattle.decimal.proofs.put.put_byte
 use Rattle.decimal.proofs.put.put_all
@@ -20,6 +21,9 @@ field_end_settled = settled (λ κs a. tt) (λ κs a x y p q. (p ∙ sym q, refl
 
 pub read_field_settled : OneOutcome read_field.Kinds.ps read_field.Kinds.r read_field.Reads.Asked read_field.Reads.Learnt
 read_field_settled = settled (λ κs a. tt) (λ κs a x y p q. (p ∙ sym q, refl))
+
+pub find_settled : OneOutcome find.Kinds.ps find.Kinds.r find.Reads.Asked find.Reads.Learnt
+find_settled = settled (λ κs a. tt) (λ κs a x y p q. (p.0 ∙ sym q.0, refl))
 
 pub is_same_settled : OneOutcome is_same.Kinds.ps is_same.Kinds.r is_same.Reads.Asked is_same.Reads.Learnt
 is_same_settled = settled (λ κs a. tt) (λ κs a x y p q. (p ∙ sym q, refl))

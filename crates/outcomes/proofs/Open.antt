@@ -23,7 +23,7 @@ open_answer h = omega (
 pub open_bytes : OneOutcome put_another.Kinds.ps put_another.Kinds.r (λ κs a. Unit {0}) (λ κs a r s. r ≡ 0) → ⊥
 open_bytes h = omega (
   arith,
-  ap (λ x. get_or x.lent.0 0 0) (h.one-outcome ([], tt) (record { ref_ptr = (0, 0); now = 0 ∷ [] }, (0, tt))
+  ap (λ x. get_or x.lent.0 0 0) (h.one-outcome ([], tt) (record { ref_ptr = (0, 0); ghost_name = 0; now = 0 ∷ [] }, (0, tt))
       (record { answer = 0; lent = (0 ∷ [], (tt, tt)) }) (record { answer = 0; lent = (1 ∷ [], (tt, tt)) }) refl refl),
 )
 
