@@ -41,7 +41,7 @@ def defined(root):
                 continue
             if line[0] != " ":
                 block = bool(re.match(r"(pub )?(record|data)\b", line))
-                if line.startswith(("use ", "module ", "infix", "unfolding", "mod ", "pub mod", "pub use")) or block:
+                if line.startswith(("use ", "module ", "infix", "unfolding", "mod ", "pub mod ", "pub use ")) or block:
                     continue
                 end = at + 1
                 while end < len(lines) and lines[end].startswith(" "):
@@ -55,12 +55,11 @@ def defined(root):
                 if m:
                     fields.add(m[1])
                     names.setdefault(m[1], False)
-            elif re.match(r"  (pub |abbrev |unfoldable )*[^\s:{}()]+\s*:\s", line):
+            else:
                 # inside `module _ (..) where`
-                m = SIGNATURE.match(line[2:])
-                if m and line[2] != " ":
-                    for name in m[1].split():
-                        names[name] = names.get(name, False)
+                m = re.match(r"\s+(?:(?:abbrev|unfoldable|pub)\s+)*([^\s:{}()=,.]+)\s*:\s", line)
+                if m:
+                    names.setdefault(m[1], False)
     return names, fields
 
 

@@ -14,7 +14,7 @@ use Rattle.laws.proofs.Choice.{if_ind}
 use Rattle.units.specs.declared.Ticks.{Ticks}
 use Rattle.table.specs.declared.Mode.{Mode}
 use Rattle.table.specs.Rows.{mode_value}
-use Rattle.table.proofs.Rows.{mode-back}
+use Rattle.table.proofs.Rows.{mode_back}
 use Rattle.events.specs.declared.TickAnswer.{TickAnswer}
 use Rattle.events.specs.declared.Turn.{Turn}
 use Rattle.events.specs.declared.Turn.TheVariants.{Run as Ran, Empty, Idle}
@@ -96,15 +96,15 @@ TellsAgain x ys = (length (told_values x) ≡ 9) × (told_at (told_values x ++ y
 ticked_again : (tick : Ticks) (m : Mode) (turn : Turn) (left : Left) (n : ℕ) (ys : List ℕ) →
     TellsAgain (ticked_of tick m turn left n) ys
 unfolding told_values told_said
-ticked_again tick m Idle Nobody n ys = (refl, rw (mode-back m))
-ticked_again tick m Idle (Done j) n ys = (refl, rw (mode-back m))
-ticked_again tick m Idle (Cut j) n ys = (refl, rw (mode-back m))
-ticked_again tick m (Empty i) Nobody n ys = (refl, rw (mode-back m))
-ticked_again tick m (Empty i) (Done j) n ys = (refl, rw (mode-back m))
-ticked_again tick m (Empty i) (Cut j) n ys = (refl, rw (mode-back m))
-ticked_again tick m (Ran i k) Nobody n ys = (refl, rw (mode-back m))
-ticked_again tick m (Ran i k) (Done j) n ys = (refl, rw (mode-back m))
-ticked_again tick m (Ran i k) (Cut j) n ys = (refl, rw (mode-back m))
+ticked_again tick m Idle Nobody n ys = (refl, rw (mode_back m))
+ticked_again tick m Idle (Done j) n ys = (refl, rw (mode_back m))
+ticked_again tick m Idle (Cut j) n ys = (refl, rw (mode_back m))
+ticked_again tick m (Empty i) Nobody n ys = (refl, rw (mode_back m))
+ticked_again tick m (Empty i) (Done j) n ys = (refl, rw (mode_back m))
+ticked_again tick m (Empty i) (Cut j) n ys = (refl, rw (mode_back m))
+ticked_again tick m (Ran i k) Nobody n ys = (refl, rw (mode_back m))
+ticked_again tick m (Ran i k) (Done j) n ys = (refl, rw (mode_back m))
+ticked_again tick m (Ran i k) (Cut j) n ys = (refl, rw (mode_back m))
 
 told_again : (x : Told) (ys : List ℕ) → TellsAgain x ys
 unfolding told_values told_said

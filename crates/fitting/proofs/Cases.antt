@@ -31,7 +31,7 @@ unfolding computed
 in_d1 = refl
 
 -- used above elapsed: 13, though the table keeps the rules
-pub used-above-elapsed :
+pub used_above_elapsed :
     run_fits (record { table = example; state = with_budgets fresh (set (replicate 32 0) 1 1) (replicate 32 0) }) ≡ No Unsound
 unfolding computed
-used-above-elapsed = refl
+used_above_elapsed = refl

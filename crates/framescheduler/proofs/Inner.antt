@@ -178,14 +178,14 @@ module _ (r : FrameRun) (k : ℕ) (e : frame_sound r ≡ true) where
   release_absent h = rw (e, le-ltb k r.table.ntasks h)
 
   module _ (l : k < r.table.ntasks) where
-    pub release-full : 16 ≤ waiting_at r.state k → refused r QueueFull ≡ release_of r k
+    pub release_full : 16 ≤ waiting_at r.state k → refused r QueueFull ≡ release_of r k
     unfolding release_of
-    release-full h = rw (e, lt-ltb k r.table.ntasks l, le-ltb (waiting_at r.state k) 16 h)
+    release_full h = rw (e, lt-ltb k r.table.ntasks l, le-ltb (waiting_at r.state k) 16 h)
 
-    pub release-spent : waiting_at r.state k < 16 → 4000000000 ≤ r.state.accepted →
+    pub release_spent : waiting_at r.state k < 16 → 4000000000 ≤ r.state.accepted →
         refused r CountSpent ≡ release_of r k
     unfolding release_of
-    release-spent h g =
+    release_spent h g =
         rw (
           e,
           lt-ltb k r.table.ntasks l,

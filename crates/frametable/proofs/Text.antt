@@ -37,7 +37,7 @@ use Rattle.text.specs.TableText.{ReadOf, taken, pair_told, LinesKeep, rows_grown
 use Rattle.text.specs.Read.{reading_number}
 use Rattle.text.proofs.Standing.{unless_kept, tell_kept, each_more, not_nil}
 use Rattle.text.proofs.Allowed.{some}
-use Rattle.text.proofs.TableText.{NotRefused, taken_not, unless_not, pair_taken, TextKept, kept_ends, not_refused_kept, text-ind, taken_or_none}
+use Rattle.text.proofs.TableText.{NotRefused, taken_not, unless_not, pair_taken, TextKept, kept_ends, not_refused_kept, text_ind, taken_or_none}
 use Rattle.frametable.specs.declared.FrameTaskLine.{FrameTaskLine}
 use Rattle.frametable.specs.declared.FrameLine.{FrameLine}
 use Rattle.frametable.specs.declared.FrameLine.TheVariants.{OfTick, OfTask, Malformed as MalformedLine}
@@ -302,5 +302,5 @@ module _ (text : List ℕ) where
   pub frame_numbers : Numbered (frame_read text).answer
   unfolding frame_read
   frame_numbers =
-      text-ind frame_text (λ r. Numbered r.answer) broken_numbered (λ n. inr (inl refl)) ended_numbered
+      text_ind frame_text (λ r. Numbered r.answer) broken_numbered (λ n. inr (inl refl)) ended_numbered
       (inr (inr (inl refl))) text

@@ -55,27 +55,27 @@ module _ (text : List ℕ) where
   SomeCase = (r : ReadOf FrameRows) × FrameCase text r
 
   some_case : SomeCase
-  some_case = length-case (le_or_lt (length text) 16384)
+  some_case = length_case (le_or_lt (length text) 16384)
     where
-      end-case : AllKept text → (b : Bool) → is_nil (get_or (parts text) (closed_lines text) []) ≡ b →
+      end_case : AllKept text → (b : Bool) → is_nil (get_or (parts text) (closed_lines text) []) ≡ b →
           (d : Bool) → is_nil (rows_said text).tasks ≡ d → (p : Pair) →
           equal_frame_tasks (rows_said text).tasks ≡ p → SomeCase
-      end-case a false e d f p q = (_, unclosed a e)
-      end-case a true e true f p q = (_, no_task a e f)
-      end-case a true e false f (EqualRows i j) q = (_, equal_tasks i j a e f q)
-      end-case a true e false f Differ q = (_, all_taken a e f q)
+      end_case a false e d f p q = (_, unclosed a e)
+      end_case a true e true f p q = (_, no_task a e f)
+      end_case a true e false f (EqualRows i j) q = (_, equal_tasks i j a e f q)
+      end_case a true e false f Differ q = (_, all_taken a e f q)
 
-      line-case : length text ≤ 16384 →
+      line_case : length text ≤ 16384 →
           FirstBroken frame_text 1 no_frame_rows (parts text) (closed_lines text) ⊎ FirstKept text (closed_lines text) →
           SomeCase
-      line-case h (inl f) = (_, line_broken f.place f.why f.field h f.below f.kept f.broken)
-      line-case h (inr k) =
-          end-case (record { short = h; kept = k }) (is_nil (get_or (parts text) (closed_lines text) [])) refl
+      line_case h (inl f) = (_, line_broken f.place f.why f.field h f.below f.kept f.broken)
+      line_case h (inr k) =
+          end_case (record { short = h; kept = k }) (is_nil (get_or (parts text) (closed_lines text) [])) refl
           (is_nil (rows_said text).tasks) refl (equal_frame_tasks (rows_said text).tasks) refl
 
-      length-case : (length text ≤ 16384) ⊎ (16384 < length text) → SomeCase
-      length-case (inl h) = line-case h (first_or_all frame_text 1 no_frame_rows (parts text) (closed_lines text))
-      length-case (inr h) = (_, too_long h)
+      length_case : (length text ≤ 16384) ⊎ (16384 < length text) → SomeCase
+      length_case (inl h) = line_case h (first_or_all frame_text 1 no_frame_rows (parts text) (closed_lines text))
+      length_case (inr h) = (_, too_long h)
 
   -- The statement to quote.
   pub frame_read_exactly : (r : ReadOf FrameRows) → (frame_read text ≡ r) ↔ FrameCase text r

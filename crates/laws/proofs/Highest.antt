@@ -94,9 +94,9 @@ module _ (marked : ℕ → Bool) (priority : ℕ → ℕ) where
   picked_is n a p =
       is_least (λ i. marked i && all_below n (λ j. not (marked j && ltb (priority i) (priority j)))) 0 n a (go a p)
     where
-      no-mark : (i : ℕ) → marked i ≡ false →
+      no_mark : (i : ℕ) → marked i ≡ false →
           (marked i && all_below n (λ j. not (marked j && ltb (priority i) (priority j)))) ≡ false
-      no-mark i e = rw e
+      no_mark i e = rw e
 
       lower : (i k : ℕ) → k < n → marked k ≡ true → (marked i ≡ true → priority i < priority k) → (b : Bool) →
           marked i ≡ b →
@@ -107,7 +107,7 @@ module _ (marked : ℕ → Bool) (priority : ℕ → ℕ) where
 
       go : (a : Found) → Picked n marked priority a →
           Searched (λ i. marked i && all_below n (λ j. not (marked j && ltb (priority i) (priority j)))) 0 n a
-      go Nothing f = miss (λ y l u. no-mark y (f y (omega arith)))
+      go Nothing f = miss (λ y l u. no_mark y (f y (omega arith)))
       go (At i) s =
           hit
           i

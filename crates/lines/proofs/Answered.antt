@@ -110,13 +110,13 @@ module _ {S : Type 0} (b : Box S) where
     Next d = AnsweredBy b s h (bytes ++ eaten_of d more) (text ++ put_of d) d.run d.held
 
     -- nothing is taken
-    next-none : (why : Refusal) → Next (unserved why z k room)
-    next-none why = rw (append-nil bytes, append-nil text) a
+    next_none : (why : Refusal) → Next (unserved why z k room)
+    next_none why = rw (append-nil bytes, append-nil text) a
 
     -- some lines are
-    next-first : (n : ℕ) → Next (served_from b z (cutting n (line_in k) more) room)
+    next_first : (n : ℕ) → Next (served_from b z (cutting n (line_in k) more) room)
     unfolding cutting
-    next-first n =
+    next_first n =
         let some = take (taken_for n more) more in
         let line = closed (answer_lines_in b z (lines_in (line_in k) some)) in
         answered_join s h bytes text z k a some _ _ _
@@ -126,18 +126,18 @@ module _ {S : Type 0} (b : Box S) where
           out = take-append_seam line (drop (length line) room);
         })
 
-    pub answered-more : Next (serve_in b z k more room)
+    pub answered_more : Next (serve_in b z k more room)
     unfolding serve_in
-    answered-more = go (b.sound z) (leb longest_answer (length room) || is_nil more)
+    answered_more = go (b.sound z) (leb longest_answer (length room) || is_nil more)
       where
         go : (p q : Bool) →
             Next
             (unless p say unserved Unsound z k room
             else unless q say unserved RoomShort z k room
             else served_from b z (cutting (lines_at_once (length room)) (line_in k) more) room)
-        go false q = next-none Unsound
-        go true false = next-none RoomShort
-        go true true = next-first (lines_at_once (length room))
+        go false q = next_none Unsound
+        go true false = next_none RoomShort
+        go true true = next_first (lines_at_once (length room))
 
   -- The file ends: from a start with nothing held, what is answered is what the whole file is.
   pub answered_file : (s : S) (bytes text : List ℕ) (z : S) (k : Held) → AnsweredBy b s (held_of []) bytes text z k →
@@ -160,8 +160,8 @@ module _ {S : Type 0} (b : Box S) where
       AnsweredBy b s h (eaten_of d xs ++ eaten_of e ys) (put_of d ++ put_of e) e.run e.held
   two_served s h xs ys room lent =
       let d = serve_in b s h xs room in
-      answered-more s h (eaten_of d xs) (put_of d) d.run d.held
-      (answered-more s h [] [] s h (answered_none s h) xs room)
+      answered_more s h (eaten_of d xs) (put_of d) d.run d.held
+      (answered_more s h [] [] s h (answered_none s h) xs room)
       ys
       lent
 

@@ -25,7 +25,7 @@ use Rattle.lines.specs.Serving.{batch, lines_at_once, Service, served_from, serv
 use Rattle.lines.specs.Pieces.{piece_in, last_text, written_in, joined, Ready}
 use Rattle.lines.proofs.Cutting.{taken_within}
 use Rattle.lines.proofs.HeldLine.{held_again}
-use Rattle.lines.proofs.Answered.{AnsweredBy, answered_none, answered_join, answered-more, answered_file}
+use Rattle.lines.proofs.Answered.{AnsweredBy, answered_none, answered_join, answered_more, answered_file}
 
 -- of some bytes, room for n lines takes n at least
 taken_enough : (n k : ℕ) (bs : List ℕ) → n ≤ k → n ≤ length bs → n ≤ taken_for k bs
@@ -66,9 +66,9 @@ module _ {S : Type 0} (b : Box S) where
     going_start room l e =
         record { within = omega arith; few = omega arith; fits = l; long = refl; held = e; by = answered_none b s h }
 
-    pub going-ready : (lent at put : ℕ) (room : List ℕ) (z : S) (k : Held) → Going b s h bytes lent at put room z k →
+    pub going_ready : (lent at put : ℕ) (room : List ℕ) (z : S) (k : Held) → Going b s h bytes lent at put room z k →
         Ready b z k
-    going-ready lent at put room z k g =
+    going_ready lent at put room z k g =
         record { sound = rw g.by.run (keeps (lines_in (line_in h) (take at bytes))); held = g.held }
 
     -- a batch more: the part of the room that was lent for it is left with its answers
@@ -91,7 +91,7 @@ module _ {S : Type 0} (b : Box S) where
         let size : length part ≡ m * 140 =
         length-take-le (end - put) (drop put room) (omega (arith, length-drop put room)) ∙
         omega arith in
-        let q = (going-ready lent at put room z k g).sound in
+        let q = (going_ready lent at put room z k g).sound in
         let first : d ≡ served_from b z (cutting m (line_in k) rest) part =
         e ∙ serve_first z k rest part m q (omega arith) (omega arith) size in
         let eats : d.eaten ≡ taken_for m rest = ap (λ (x : Service S). x.eaten) first in
@@ -139,7 +139,7 @@ module _ {S : Type 0} (b : Box S) where
                 AnsweredBy b s h (take at bytes ++ take x.eaten rest)
                 (take put room ++ take x.put x.room)
                 x.run x.held)
-                (sym e) (answered-more b s h (take at bytes) (take put room) z k g.by rest part));
+                (sym e) (answered_more b s h (take at bytes) (take put room) z k g.by rest part));
           },
         )
 

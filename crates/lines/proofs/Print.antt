@@ -96,11 +96,11 @@ module _ (values told room : List ℕ) where
       (λ e.
       let f = or_false (leb longest_answer (length room)) (eqb (lines_lent values told) 0) e in
       let z = eqb-false (lines_lent values told) 0 f.1 in
-      short (some-line (lines_lent values told) z, leb-false longest_answer (length room) f.0))
+      short (some_line (lines_lent values told) z, leb-false longest_answer (length room) f.0))
     where
-      some-line : (n : ℕ) → (n ≡ 0 → ⊥) → 1 ≤ n
-      some-line zero z = absurd (z refl)
-      some-line (suc n) z = omega arith
+      some_line : (n : ℕ) → (n ≡ 0 → ⊥) → 1 ≤ n
+      some_line zero z = absurd (z refl)
+      some_line (suc n) z = omega arith
 
   pub print_12 : (taking_number (print_of values told room).printed.answer ≡ 12) ↔ Short
   print_12 = (

@@ -93,15 +93,15 @@ module _ {S : Type 0} (b : Box S) where
   -- A box that answered is sound.
   module _ (s : S) (ls : List EventLine) (answer : Taking) (run : S) (told : List ℕ)
       (t : Telling b s ls answer run told) where
-    pub told-sound : answer ≡ Taken → b.sound s ≡ true
-    told-sound e = go (true_or_false (b.sound s))
+    pub told_sound : answer ≡ Taken → b.sound s ≡ true
+    told_sound e = go (true_or_false (b.sound s))
       where
         go : (b.sound s ≡ true) ⊎ (b.sound s ≡ false) → b.sound s ≡ true
         go (inl q) = q
         go (inr q) = absurd (clash (is_taken answer) (ap is_taken e) (ap is_taken (t.refused q)))
 
-    pub told-unsound : is_taken answer ≡ false → b.sound s ≡ false
-    told-unsound e = go (true_or_false (b.sound s))
+    pub told_unsound : is_taken answer ≡ false → b.sound s ≡ false
+    told_unsound e = go (true_or_false (b.sound s))
       where
         go : (b.sound s ≡ true) ⊎ (b.sound s ≡ false) → b.sound s ≡ false
         go (inl q) = absurd (clash (is_taken answer) (ap is_taken (t.taken q)) e)
@@ -140,16 +140,16 @@ module _ {S : Type 0} (b : Box S) where
 
   -- What is handed back of lines that were cut.
   module _ (s : S) (h : Held) (c : Cut) (ls : List EventLine) (room : List ℕ) where
-    pub cut-unsound : b.sound s ≡ false → unserved Unsound s h room ≡ answered_cut b s h c ls room
+    pub cut_unsound : b.sound s ≡ false → unserved Unsound s h room ≡ answered_cut b s h c ls room
     unfolding answered_cut
-    cut-unsound q = rw q
+    cut_unsound q = rw q
 
-    pub cut-refused : b.sound s ≡ true → is_taken c.answer ≡ false →
+    pub cut_refused : b.sound s ≡ true → is_taken c.answer ≡ false →
         unserved RoomShort s h room ≡ answered_cut b s h c ls room
     unfolding answered_cut
-    cut-refused q e = rw (q, e)
+    cut_refused q e = rw (q, e)
 
-    pub cut-answered : b.sound s ≡ true → c.answer ≡ Taken → (run : S) (put : ℕ) (left : List ℕ) →
+    pub cut_answered : b.sound s ≡ true → c.answer ≡ Taken → (run : S) (put : ℕ) (left : List ℕ) →
         run ≡ after_lines_in b s ls →
         put ≡ length (closed (answer_lines_in b s ls)) →
         left ≡ fronted (closed (answer_lines_in b s ls)) room →
@@ -157,7 +157,7 @@ module _ {S : Type 0} (b : Box S) where
         (record { answer = Taken; run = run; held = c.held; eaten = c.eaten; put = put; room = left })
         (answered_cut b s h c ls room)
     unfolding answered_cut
-    cut-answered q e run put left a p d = rw (q, e, a, p, d)
+    cut_answered q e run put left a p d = rw (q, e, a, p, d)
 
 -- The lines that are cut from a buffer, at most as many as their answers have room.
 module _ (h : Held) (bytes lent : List ℕ) (room : ℕ) (long : length lent ≡ 2 * lines_at_once room) (c : Cut)

@@ -158,10 +158,10 @@ best_is such b c (m ∷ ms) h =
 
 pub longest_next : (such : TakenTick → Bool) (ms : List TakenTick) (m : TakenTick) →
     longest_row such (ms ++ (m ∷ [])) ≡ larger (longest_row such ms) (row_to such 0 (ms ++ (m ∷ [])))
-longest_next such ms m = rw (longest-is such (ms ++ (m ∷ [])), longest-is such ms) (best_next such 0 0 ms m)
+longest_next such ms m = rw (longest_is such (ms ++ (m ∷ [])), longest_is such ms) (best_next such 0 0 ms m)
   where
-    longest-is : (such : TakenTick → Bool) (ms : List TakenTick) → longest_row such ms ≡ best_of such 0 0 ms
-    longest-is such ms =
+    longest_is : (such : TakenTick → Bool) (ms : List TakenTick) → longest_row such ms ≡ best_of such 0 0 ms
+    longest_is such ms =
         let x = best_is such 0 0 ms (omega arith) in
         let f : 0 + row_from such ms ≤ longest_row such ms = omega (arith, first_within such ms) in
         omega (arith, x.third, x.least (longest_row such ms) (omega arith) f (omega arith))

@@ -12,6 +12,6 @@ pub settled : {n : ℕ} {ps : List (ParamKind n)} {r : ResultKind n} {asked : In
     Allowed ps r learnt κs a y → (x.answer ≡ y.answer) × (x.lent ≡ y.lent)) →
     OneOutcome ps r asked learnt
 settled every same = record {
-  every-input = every;
-  one-outcome = λ κs a x y p q i. record { answer = (same κs a x y p q).0 i; lent = (same κs a x y p q).1 i };
+  every_input = every;
+  one_outcome = λ κs a x y p q i. record { answer = (same κs a x y p q).0 i; lent = (same κs a x y p q).1 i };
 }

@@ -42,11 +42,11 @@ is_low_settled = settled (λ κs a. tt) (λ κs a x y p q. (p ∙ sym q, refl))
 pub is_d2_settled : OneOutcome is_d2.Kinds.ps is_d2.Kinds.r is_d2.Reads.Asked is_d2.Reads.Learnt
 is_d2_settled = settled (λ κs a. tt) (λ κs a x y p q. (p ∙ sym q, refl))
 
-pub mode-value-settled : OneOutcome mode_value.Kinds.ps mode_value.Kinds.r mode_value.Reads.Asked mode_value.Reads.Learnt
-mode-value-settled = settled (λ κs a. tt) (λ κs a x y p q. (p ∙ sym q, refl))
+pub mode_value_settled : OneOutcome mode_value.Kinds.ps mode_value.Kinds.r mode_value.Reads.Asked mode_value.Reads.Learnt
+mode_value_settled = settled (λ κs a. tt) (λ κs a x y p q. (p ∙ sym q, refl))
 
-pub mode-said-settled : OneOutcome mode_said.Kinds.ps mode_said.Kinds.r mode_said.Reads.Asked mode_said.Reads.Learnt
-mode-said-settled = settled (λ κs a. tt) (λ κs a x y p q. (p ∙ sym q, refl))
+pub mode_said_settled : OneOutcome mode_said.Kinds.ps mode_said.Kinds.r mode_said.Reads.Asked mode_said.Reads.Learnt
+mode_said_settled = settled (λ κs a. tt) (λ κs a x y p q. (p ∙ sym q, refl))
 
 pub row_in_settled : OneOutcome row_in.Kinds.ps row_in.Kinds.r row_in.Reads.Asked row_in.Reads.Learnt
 row_in_settled = settled (λ κs a. tt) (λ κs a x y p q. (p ∙ sym q, refl))

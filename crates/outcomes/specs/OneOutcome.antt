@@ -23,7 +23,7 @@ module _ {n : ℕ} (ps : List (ParamKind n)) (r : ResultKind n) where
 
   pub record OneOutcome (asked : In n ps) (learnt : Out n ps r) : Type 0 where
     -- "on every input, refused input too": nothing is asked
-    pub every-input : (κs : Lfts n) (a : Dens κs ps) → asked κs a
+    pub every_input : (κs : Lfts n) (a : Dens κs ps) → asked κs a
     -- "any two outcomes allowed by it are equal"
-    pub one-outcome : (κs : Lfts n) (a : Dens κs ps) (x y : Outcome κs a) → Allowed learnt κs a x →
+    pub one_outcome : (κs : Lfts n) (a : Dens κs ps) (x y : Outcome κs a) → Allowed learnt κs a x →
         Allowed learnt κs a y → x ≡ y

@@ -389,11 +389,11 @@ word_told n a fs Unknown = ask false Malformed 0 (λ e. clash false e refl, λ e
 pub line_told_lem : (n : ℕ) (a : Rows) (line : List ℕ) →
     Told (standing n a (read_line line)) (line_asked n a (split tab line))
 unfolding read_line line_of line_by
-line_told_lem n a line = by-fields (split tab line)
+line_told_lem n a line = by_fields (split tab line)
   where
-    by-fields : (fs : List (List ℕ)) → Told (standing n a (line_of fs)) (line_asked n a fs)
-    by-fields [] = word_told n a [] Unknown
-    by-fields (w ∷ fs) = word_told n a fs (leading w)
+    by_fields : (fs : List (List ℕ)) → Told (standing n a (line_of fs)) (line_asked n a fs)
+    by_fields [] = word_told n a [] Unknown
+    by_fields (w ∷ fs) = word_told n a fs (leading w)
 
 -- A number and a field that one question alone has are told exactly where those above it hold and
 -- it does not; past the last stands 0 and 0, told where all hold.

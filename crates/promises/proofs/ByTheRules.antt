@@ -36,14 +36,14 @@ use Rattle.run.proofs.Shape.{Shaped, RunShaped, alike_shaped, step1_alike}
 use Rattle.run.proofs.Sound.{StateSound}
 use Rattle.run.proofs.Steps.{step1_waiting, drops_exactly, runs_stay, step2_runs, step3_runs}
 use Rattle.run.proofs.Steps.{waiting_settled, runs_after}
-use Rattle.run.proofs.Tick.{used-after, elapsed_after, elapsed_settled, ticks_after, accepted_after}
+use Rattle.run.proofs.Tick.{used_after, elapsed_after, elapsed_settled, ticks_after, accepted_after}
 use Rattle.run.proofs.Tick.{turn_run, turn_empty, turn_idle, turn_last, owner_exactly}
 use Rattle.events.proofs.Answers.{charged_is}
 use Rattle.events.proofs.Answers.{charged_le, one_charged, one_same}
 use Rattle.run.proofs.Tick.{highest_charged, charged_highest}
 use Rattle.run.proofs.Tick.{timed_able, waiting_able, able_room, able_started, able_cause}
 use Rattle.run.proofs.Tick.{force_started, force_low, started_settled}
-use Rattle.run.proofs.Slips.{used-anew, used-stays, none_waits_normal, waits_as_risen, next_starts}
+use Rattle.run.proofs.Slips.{used_anew, used_stays, none_waits_normal, waits_as_risen, next_starts}
 use Rattle.run.proofs.Count.{tick-jobs}
 use Rattle.promises.specs.Condition2.{RunSized, OneTick, table, old, new, OnTheWay, Judging, stays}
 use Rattle.promises.specs.Condition2.{rises, is_cut, Ends, Step1}
@@ -207,13 +207,13 @@ module _ (t : Table) (s : State) (mark : Bool) (rules : TableRules t) (shape : S
       record {
         refilled =
             λ i l e. (
-              used-anew t s mark i l rules.servers_high shape e,
+              used_anew t s mark i l rules.servers_high shape e,
               elapsed_settled t s mark i l rules.servers_high shape ∙
                   ap (λ (b : Bool). if b then 0 else elapsed_at s i) (eq-eqb (elapsed_at s i) (period_at t i) e),
             );
         kept =
             λ i l n. (
-              used-stays t s mark i l rules.servers_high shape n,
+              used_stays t s mark i l rules.servers_high shape n,
               elapsed_settled t s mark i l rules.servers_high shape ∙
                   ap (λ (b : Bool). if b then 0 else elapsed_at s i) (ne_eqb (elapsed_at s i) (period_at t i) n),
             );
@@ -296,7 +296,7 @@ module _ (t : Table) (s : State) (mark : Bool) (rules : TableRules t) (shape : S
   unfolding tick_taken
   by5 =
       record {
-        charged = λ i h. after i h.0.there ∙ ap (λ n. used_at z i + n) (is-charged i h);
+        charged = λ i h. after i h.0.there ∙ ap (λ n. used_at z i + n) (is_charged i h);
         others = λ i l n. elim (charged_is (choose t z) i) [
           | inl c ↦ omega (arith, after i l)
           | inr c ↦ absurd (n ((server_is i).0 (charged_highest t z i c)))
@@ -309,10 +309,10 @@ module _ (t : Table) (s : State) (mark : Bool) (rules : TableRules t) (shape : S
     where
       after : (i : ℕ) → i < t.nservers →
           used_at (tick_taken t s mark).state i ≡ used_at z i + charged (choose t z) i
-      after i l = used-after t s mark i l rules.servers_high shape
+      after i l = used_after t s mark i l rules.servers_high shape
 
-      is-charged : (i : ℕ) → Highest x w i → charged (choose t z) i ≡ 1
-      is-charged i h = highest_charged t z i i ((server_is i).1 h) ∙ one_same i
+      is_charged : (i : ℕ) → Highest x w i → charged (choose t z) i ≡ 1
+      is_charged i h = highest_charged t z i i ((server_is i).1 h) ∙ one_same i
 
   by6 : Step6 x w
   unfolding tick_taken advance settle step4

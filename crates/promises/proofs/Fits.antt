@@ -16,7 +16,7 @@ use Rattle.table.specs.declared.Mode.TheVariants.{N}
 use Rattle.table.specs.declared.Table.{Table}
 use Rattle.table.specs.Rows.{period_at, mode_value, mode_said}
 use Rattle.table.specs.Rules.{table_keeps}
-use Rattle.table.proofs.Rows.{mode-back}
+use Rattle.table.proofs.Rows.{mode_back}
 use Rattle.table.proofs.Rules.{few_servers}
 use Rattle.verdict.specs.declared.Verdict.TheVariants.{Response, Misses}
 use Rattle.verdict.specs.declared.Fits.{Fits}
@@ -119,7 +119,7 @@ told_yes (NoFits why) e = let z : ◌≡◌ {A = ℕ} 0 1 = ap (λ l. get_or l 0
 told_miss : (a : Fits) (m : Mode) (i : ℕ) → fits_values a ≡ 0 ∷ mode_value m ∷ i ∷ [] → a ≡ Miss m i
 told_miss Yes m i e = let z : ◌≡◌ {A = ℕ} 1 0 = ap (λ l. get_or l 0 0) e in absurd (omega (arith, z))
 told_miss (Miss n j) m i e =
-    let x : n ≡ m = sym (mode-back n) ∙ ap (λ l. mode_said (get_or l 1 0)) e ∙ mode-back m in
+    let x : n ≡ m = sym (mode_back n) ∙ ap (λ l. mode_said (get_or l 1 0)) e ∙ mode_back m in
     let y : j ≡ i = ap (λ l. get_or l 2 0) e in
     rw (x, y)
 told_miss (NoFits why) m i e = let z : ◌≡◌ {A = ℕ} 0 3 = ap length e in absurd (omega (arith, z))

@@ -306,9 +306,9 @@ frame_from_the_text text = (
             subst (λ (r : FrameRun). frame_sound (after_in frame_box r es) ≡ true) (sym (start_run t))
             (reached_sound t es k.0 k.1).1,
       ),
-  λ n. frame_refused_no_table text (λ e. n (shown-number text e)),
+  λ n. frame_refused_no_table text (λ e. n (shown_number text e)),
 )
   where
-    shown-number : (text : List ℕ) → (frame_read text).answer ≡ Taken →
+    shown_number : (text : List ℕ) → (frame_read text).answer ≡ Taken →
         reading_number (frame_shown (frame_read text)).answer ≡ 0
-    shown-number text e = ap reading_number (shown_answer text ∙ e)
+    shown_number text e = ap reading_number (shown_answer text ∙ e)

@@ -54,7 +54,7 @@ use Rattle.run.specs.Found.{TakenTick, taken_by, taken_ticks}
 use Rattle.run.proofs.Shape.{Shaped, event_table}
 use Rattle.run.proofs.Sound.{StateSound, sound_table, sound_state_lem}
 use Rattle.run.proofs.Taken.{release_ind, tick_ind, release_taken, ticked_taken}
-use Rattle.run.proofs.Tick.{used-settled, elapsed_settled, used-after, elapsed_after, answer_turn}
+use Rattle.run.proofs.Tick.{used_settled, elapsed_settled, used_after, elapsed_after, answer_turn}
 use Rattle.run.proofs.Tick.{answer_tick, charged_passes, passes_late, started_settled}
 use Rattle.morning.specs.Numbers.{passed_over}
 use Rattle.promises.specs.Condition2.{table, new}
@@ -94,10 +94,10 @@ module _ (t : Table) (s : State) (mark : Bool) (rules : TableRules t) (shape : S
   unmoved =
       let b = (f.servers i l).before yet in
       let over = eqb (elapsed_at s i) (period_at t i) in
-      let u = used-settled t s mark i l rules.servers_high shape ∙ left over (used_at s i) b.0 in
+      let u = used_settled t s mark i l rules.servers_high shape ∙ left over (used_at s i) b.0 in
       let e = elapsed_settled t s mark i l rules.servers_high shape ∙ left over (elapsed_at s i) b.1 in (
         ap (λ turn. charged turn i) (answer_turn t s mark) ∙ free,
-        omega (arith, used-after t s mark i l rules.servers_high shape, u, free),
+        omega (arith, used_after t s mark i l rules.servers_high shape, u, free),
         omega (arith, elapsed_after t s mark i l rules.servers_high shape, e, none),
       )
 

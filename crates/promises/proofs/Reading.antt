@@ -262,35 +262,35 @@ module _ (text : List ℕ) where
 
   -- every text is in a case
   some_case : SomeCase
-  some_case = length-case (le_or_lt (length text) 16384)
+  some_case = length_case (le_or_lt (length text) 16384)
     where
       lines : ℕ
       lines = length (rows_above text (end_line text)).tasks
 
-      end-case : length text ≤ 16384 → StandAbove text (end_line text) →
+      end_case : length text ≤ 16384 → StandAbove text (end_line text) →
           (length rest ≤ 0) ⊎ (0 < length rest) → (lines ≤ 0) ⊎ (0 < lines) → SomeCase
-      end-case h a (inr b) t = (1, end_line text ∷ 0 ∷ [], unclosed h a b)
-      end-case h a (inl b) (inl t) =
+      end_case h a (inr b) t = (1, end_line text ∷ 0 ∷ [], unclosed h a b)
+      end_case h a (inl b) (inl t) =
           (1, end_line text ∷ 0 ∷ [], missing h a (omega arith) (omega arith))
-      end-case h a (inl b) (inr t) =
+      end_case h a (inl b) (inr t) =
           let c : Complete text = record { short = h; stand = a; closes = omega arith; task = t } in
           pair_case c (pairOfServers rows.servers) (pair_is servers server_priority)
 
-      line-case : length text ≤ 16384 → FirstBroken table_text 1 no_rows parts many ⊎ AllKept many → SomeCase
-      line-case h (inl f) =
+      line_case : length text ≤ 16384 → FirstBroken table_text 1 no_rows parts many ⊎ AllKept many → SomeCase
+      line_case h (inl f) =
           let n = f.place in (
             fault_at text (suc n),
             suc n ∷ fault_field text (suc n) ∷ [],
             first_fault (suc n) h (omega arith) (omega (arith, f.below)) (kept_stand n f.kept)
                 (some_number n f.why f.field f.broken),
           )
-      line-case h (inr k) =
+      line_case h (inr k) =
           let s = kept_stand many k in
-          end-case h (λ m g l. s m g (omega arith)) (le_or_lt (length rest) 0) (le_or_lt lines 0)
+          end_case h (λ m g l. s m g (omega arith)) (le_or_lt (length rest) 0) (le_or_lt lines 0)
 
-      length-case : (length text ≤ 16384) ⊎ (16384 < length text) → SomeCase
-      length-case (inr h) = (2, 0 ∷ 0 ∷ [], too_long h)
-      length-case (inl h) = line-case h (first_or_all table_text 1 no_rows parts many)
+      length_case : (length text ≤ 16384) ⊎ (16384 < length text) → SomeCase
+      length_case (inr h) = (2, 0 ∷ 0 ∷ [], too_long h)
+      length_case (inl h) = line_case h (first_or_all table_text 1 no_rows parts many)
 
 pub each_read : EachRead
 unfolding shown

@@ -383,13 +383,13 @@ module _ (x y : OneTick) (safe : sound x.before ≡ true) (marks : x.mark ≡ y.
         mode = p.step3.told ∙ mode ∙ sym q.step3.told;
         used =
             λ i m.
-            let l = in-servers i m in
+            let l = in_servers i m in
             charge_counted x p i l ∙
             ap₂ (λ (n : ℕ) (u : Turn). n + charged u i) (counts i l).0 turn ∙
             sym (charge_counted y q i (server i l));
         elapsed =
             λ i m.
-            let l = in-servers i m in
+            let l = in_servers i m in
             elim (le_or_lt (phase_at (table x) i) (old x).ticks.0) [
               | inl g ↦
                   omega (
@@ -406,10 +406,10 @@ module _ (x y : OneTick) (safe : sound x.before ≡ true) (marks : x.mark ≡ y.
                     (counts i l).1,
                   )
             ];
-        waiting = λ k m. waiting k (in-tasks k m);
+        waiting = λ k m. waiting k (in_tasks k m);
         runs =
             λ k m.
-            let l = in-tasks k m in
+            let l = in_tasks k m in
             p.step6.runs k l ∙ ap₂ (λ (n : ℕ) (u : Turn). n + ran u k) (fronts k l) turn ∙
             sym (q.step6.runs k (task k l));
         last = last (new y).last refl;
@@ -420,11 +420,11 @@ module _ (x y : OneTick) (safe : sound x.before ≡ true) (marks : x.mark ≡ y.
         accepted = p.step7.accepted ∙ h.accepted ∙ sym q.step7.accepted;
       }
     where
-      in-servers : (i : ℕ) → i < x.after.table.nservers → i < (table x).nservers
-      in-servers i l = omega (arith, ap (λ (t : Table). t.nservers) p.step7.same)
+      in_servers : (i : ℕ) → i < x.after.table.nservers → i < (table x).nservers
+      in_servers i l = omega (arith, ap (λ (t : Table). t.nservers) p.step7.same)
 
-      in-tasks : (k : ℕ) → k < x.after.table.ntasks → k < (table x).ntasks
-      in-tasks k l = omega (arith, ap (λ (t : Table). t.ntasks) p.step7.same)
+      in_tasks : (k : ℕ) → k < x.after.table.ntasks → k < (table x).ntasks
+      in_tasks k l = omega (arith, ap (λ (t : Table). t.ntasks) p.step7.same)
 
 pub rules_settle : RulesSettle
 rules_settle x y safe marks h p q = (

@@ -119,10 +119,10 @@ module _ (t : Table) (ms : List TakenTick) (f : Follows t fresh ms) (a : Accepte
     Free x = busy (there t) (above t i) (charge_of (course t ms)) x ≡ false
 
     -- in it, an able row from i on up is charged
-    charged-free : (j x : ℕ) → x < len → Free x → j < there t → priority_at t i ≤ priority_at t j →
+    charged_free : (j x : ℕ) → x < len → Free x → j < there t → priority_at t i ≤ priority_at t j →
         able t (tick_at ms x).found j ≡ true → charged (tick_at ms x).answer.turn j ≡ 1
     unfolding Free
-    charged-free j x l q m p e =
+    charged_free j x l q m p e =
         rw
         (f.told x (omega arith)).turn
         (charged_unless t a (tick_at ms x).found j (omega (arith, a.used)) e (λ v o u.
@@ -161,14 +161,14 @@ module _ (t : Table) (ms : List TakenTick) (f : Follows t fresh ms) (a : Accepte
             absurd
             (omega (
               arith,
-              charged-free j x (omega arith) q l (omega arith) e,
+              charged_free j x (omega arith) q l (omega arith) e,
               quiet (there t) (above t i) (charge_of (course t ms)) x q j l u,
             ))
 
     -- and row i is charged, if it has started, has budget left and is timed or has a waiting job
     serves : (x : ℕ) → x < len → i < there t → started t (tick_at ms x).found i ≡ true → (timed_at t i ≡ true) ⊎ (waits t (tick_at ms x).found i ≡ true) →
         used_at (tick_at ms x).found i < capacity_at t N i → Free x → 0 < charged (tick_at ms x).answer.turn i
-    serves x m l b w c q = omega (arith, charged-free i x m q l (omega arith) (go w))
+    serves x m l b w c q = omega (arith, charged_free i x m q l (omega arith) (go w))
       where
         go : (timed_at t i ≡ true) ⊎ (waits t (tick_at ms x).found i ≡ true) → able t (tick_at ms x).found i ≡ true
         go (inl k) = timed_able t (tick_at ms x).found i k (omega (arith, found_force i x m b))

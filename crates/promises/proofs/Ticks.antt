@@ -33,7 +33,7 @@ use Rattle.run.specs.Release.{with_job}
 use Rattle.run.specs.Tick.{settle, choose, tick_taken}
 use Rattle.run.proofs.Taken.{release_ind, tick_ind, release_taken, ticked_taken}
 use Rattle.run.proofs.Shape.{Shaped, job_shaped, tick_shaped, settle_counts}
-use Rattle.run.proofs.Tick.{used-settled, elapsed_settled, used-after, elapsed_after, answer_mode, answer_turn, charged_able}
+use Rattle.run.proofs.Tick.{used_settled, elapsed_settled, used_after, elapsed_after, answer_mode, answer_turn, charged_able}
 use Rattle.run.proofs.Tick.{able_room, answer_tick, ticks_after, charged_passes, passes_most, passes_late}
 use Rattle.events.proofs.Answers.{charged_is, charged_le}
 use Rattle.run.specs.Found.{TakenTick, tick_taken_so, taken_by, taken_ticks}
@@ -129,7 +129,7 @@ follows_one t s mark ms few shape f = record { told = says; number = counted; fi
 
     begun : (i : ℕ) → i < t.nservers → Refilled t i (used_at s i) (elapsed_at s i) (settle t s mark).state
     begun i l =
-        record { used = used-settled t s mark i l few shape; elapsed = elapsed_settled t s mark i l few shape }
+        record { used = used_settled t s mark i l few shape; elapsed = elapsed_settled t s mark i l few shape }
 
     on : (x : ℕ) → suc x < suc (length ms) → (i : ℕ) → i < t.nservers →
         Refilled t i
@@ -138,7 +138,7 @@ follows_one t s mark ms few shape f = record { told = says; number = counted; fi
         (tick_at ms x).found
     on zero h i l =
         rw
-        (answer_turn t s mark, ← used-after t s mark i l few shape, ← elapsed_after t s mark i l few shape)
+        (answer_turn t s mark, ← used_after t s mark i l few shape, ← elapsed_after t s mark i l few shape)
         (f.first (omega arith) i l)
     on (suc x) h i l = f.next x (omega arith) i l
 

@@ -50,7 +50,7 @@ use Rattle.reader.specs.declared.frame.FrameLineRead.{FrameLineRead}
 use Rattle.reader.specs.Inner.Lines.{first_word}
 use Rattle.reader.specs.Inner.Frame.{FrameAbove, frame_line_read, frame_behind, first_frame_read, frame_standing_by}
 use Rattle.reader.proofs.Inner.{padded_more, nil_is}
-use Rattle.reader.proofs.Line.{ReadAs, line_ends, form_wrong, form-right, value_read, led_by, parts, other_word}
+use Rattle.reader.proofs.Line.{ReadAs, line_ends, form_wrong, form_right, value_read, led_by, parts, other_word}
 use Rattle.reader.proofs.TableText.{lent}
 
 -- what a line says and where it ends, from the one pass over its fields
@@ -71,7 +71,7 @@ module _ (text : List ℕ) (from : ℕ) (r : Fields) where
   unfolding frame_line_by tick_form
   frame_tick_read e w =
       rw (value_read tick_form text from r e w (omega arith) 0 (omega arith))
-      (form-right tick_form text from r e w (Malformed ATick) (OfTick (micros_at (fields_from text from) 1)))
+      (form_right tick_form text from r e w (Malformed ATick) (OfTick (micros_at (fields_from text from) 1)))
 
   pub frame_task_wrong : ReadAs frame_task_form text from r → (field : ℕ) → r.wrong ≡ At field →
       Malformed ATask field ≡ frame_line_by ATask (fields_from text from)
@@ -89,7 +89,7 @@ module _ (text : List ℕ) (from : ℕ) (r : Fields) where
   frame_task_read e w =
       let v = value_read frame_task_form text from r e w (omega arith) in
       rw (v 0 (omega arith), v 1 (omega arith), v 2 (omega arith))
-      (form-right frame_task_form text from r e w (Malformed ATask) (OfTask (frame_task_said (fields_from text from))))
+      (form_right frame_task_form text from r e w (Malformed ATask) (OfTask (frame_task_said (fields_from text from))))
 
 -- the word that a text begins with, and its tab, tell the form
 pub frame_led : (text w : List ℕ) → high w ≡ true → led_by w text ≡ true → (word : Word) → word ≡ leading w →

@@ -21,7 +21,7 @@ use Rattle.decimal.specs.Lines.{tab, line_feed, same}
 use Rattle.decimal.specs.declared.End.{End}
 use Rattle.decimal.specs.Inner.Fields.{first_line, fields_from, first_field, field_end}
 use Rattle.decimal.proofs.Lines.{split_some, Finds, high, high_at, same_eq, same_self}
-use Rattle.decimal.proofs.Inner.Fields.{end_past_high, end-tab, end_within, end_taken, field_taken, field_more, field_last, line_behind_tab, line_on_from, line_found}
+use Rattle.decimal.proofs.Inner.Fields.{end_past_high, end_tab, end_within, end_taken, field_taken, field_more, field_last, line_behind_tab, line_on_from, line_found}
 use Rattle.table.specs.declared.Kind.{Kind}
 use Rattle.table.specs.declared.Level.{Level}
 use Rattle.text.specs.declared.LastField.{LastField}
@@ -90,16 +90,16 @@ module _ (form : Form) (text : List ℕ) (from : ℕ) (r : Fields) (read : ReadA
 
   module _ (none : r.wrong ≡ Nothing) where
     -- and where none is
-    pub form-right : {L : Type 0} (malformed : ℕ → L) (said : L) →
+    pub form_right : {L : Type 0} (malformed : ℕ → L) (said : L) →
         said ≡ formed_or malformed form (fields_from text from) said
-    form-right malformed said = ap (λ x. unless_wrong x malformed said) (sym (first_wrong_lem Nothing none))
+    form_right malformed said = ap (λ x. unless_wrong x malformed said) (sym (first_wrong_lem Nothing none))
 
-    form-has : (said : Line) → said ≡ formed form (fields_from text from) said
-    form-has said = form-right (Malformed (word_of said)) said
+    form_has : (said : Line) → said ≡ formed form (fields_from text from) said
+    form_has said = form_right (Malformed (word_of said)) said
 
-    value-at : length form.fields ≤ 8 → (i : ℕ) → i < length (fields_from text from) →
+    value_at : length form.fields ≤ 8 → (i : ℕ) → i < length (fields_from text from) →
         get_or r.values i 0 ≡ value_of (get_or form.fields i a_number) (get_or (fields_from text from) i [])
-    value-at l i h =
+    value_at l i h =
         ap (λ (x : Fields). get_or x.values i 0) read
         ∙ pass_values form (fields_from text from) (line_end text from) (first_wrong_lem Nothing none) l i h
 
@@ -107,7 +107,7 @@ module _ (form : Form) (text : List ℕ) (from : ℕ) (r : Fields) (read : ReadA
         get_or r.values i 0 ≡ value_of (get_or form.fields i a_number) (get_or (fields_from text from) i [])
     value_read l i h =
         let has = (failed_none (form_tests form (fields_from text from))).0 (first_wrong_lem Nothing none) in
-        value-at l i (omega (arith, (form_count form (fields_from text from) has).0))
+        value_at l i (omega (arith, (form_count form (fields_from text from) has).0))
 
     many_read : r.count ≡ length (fields_from text from)
     many_read =
@@ -116,9 +116,9 @@ module _ (form : Form) (text : List ℕ) (from : ℕ) (r : Fields) (read : ReadA
         (split_some tab (first_line (drop from text)))
 
     -- field k, the last of its form, a number
-    pub last-read : (k : ℕ) → 0 < k → length form.fields ≤ 8 → get_or form.fields (k - 1) a_number ≡ a_number →
+    pub last_read : (k : ℕ) → 0 < k → length form.fields ≤ 8 → get_or form.fields (k - 1) a_number ≡ a_number →
         last_of r.count k (get_or r.values (k - 1) 0) ≡ last_at (fields_from text from) k
-    last-read k p l e = rw many_read (go (ltb (length (fields_from text from)) k) refl)
+    last_read k p l e = rw many_read (go (ltb (length (fields_from text from)) k) refl)
       where
         go : (b : Bool) → ltb (length (fields_from text from)) k ≡ b →
             (if b then Absent else Given (record { 0 = get_or r.values (k - 1) 0 }))
@@ -126,7 +126,7 @@ module _ (form : Form) (text : List ℕ) (from : ℕ) (r : Fields) (read : ReadA
         go true q = refl
         go false q =
             let h = ltb-false (length (fields_from text from)) k q in
-            rw (rw e at (value-at l (k - 1) (omega arith)))
+            rw (rw e at (value_at l (k - 1) (omega arith)))
 
 -- and what it says where no field is wrong
 module _ (text : List ℕ) (from : ℕ) (r : Fields) where
@@ -136,7 +136,7 @@ module _ (text : List ℕ) (from : ℕ) (r : Fields) where
   unfolding tick_form
   tick_read e w =
       rw (value_read tick_form text from r e w (omega arith) 0 (omega arith))
-      (form-has tick_form text from r e w (OfTick (micros_at (fields_from text from) 1)))
+      (form_has tick_form text from r e w (OfTick (micros_at (fields_from text from) 1)))
 
   pub server_read : (kind : Kind) (phase : LastField) → kind ≡ kind_at (get_or r.values 1 0) →
       phase ≡ last_of r.count 8 (get_or r.values 7 0) →
@@ -158,7 +158,7 @@ module _ (text : List ℕ) (from : ℕ) (r : Fields) where
       let v = value_read server_form text from r e w (omega arith) in
       rw (
         k,
-        p ∙ last-read server_form text from r e w 8 (omega arith) (omega arith) refl,
+        p ∙ last_read server_form text from r e w 8 (omega arith) (omega arith) refl,
         v 0 (omega arith),
         v 1 (omega arith),
         v 2 (omega arith),
@@ -168,7 +168,7 @@ module _ (text : List ℕ) (from : ℕ) (r : Fields) where
         v 6 (omega arith),
         kind_said (get_or (fields_from text from) 1 []),
       )
-      (form-has server_form text from r e w (OfServer (server_said (fields_from text from))))
+      (form_has server_form text from r e w (OfServer (server_said (fields_from text from))))
 
   pub task_read : (level : Level) → level ≡ level_at (get_or r.values 3 0) →
       ReadAs task_form text from r → r.wrong ≡ Nothing →
@@ -197,7 +197,7 @@ module _ (text : List ℕ) (from : ℕ) (r : Fields) where
         v 6 (omega arith),
         level_said (get_or (fields_from text from) 3 []),
       )
-      (form-has task_form text from r e w (OfTask (task_said (fields_from text from))))
+      (form_has task_form text from r e w (OfTask (task_said (fields_from text from))))
 
 -- the leading word
 module _ (w : List ℕ) where
@@ -205,15 +205,15 @@ module _ (w : List ℕ) where
   word_tick e = rw e
 
   module _ (not-tick : same w tick_word ≡ false) where
-    pub word-server : same w server_word ≡ true → AServer ≡ leading w
-    word-server e = rw (not-tick, e)
+    pub word_server : same w server_word ≡ true → AServer ≡ leading w
+    word_server e = rw (not-tick, e)
 
     module _ (not-server : same w server_word ≡ false) where
-      pub word-task : same w task_word ≡ true → ATask ≡ leading w
-      word-task e = rw (not-tick, not-server, e)
+      pub word_task : same w task_word ≡ true → ATask ≡ leading w
+      word_task e = rw (not-tick, not-server, e)
 
-      pub word-other : same w task_word ≡ false → Unknown ≡ leading w
-      word-other e = rw (not-tick, not-server, e)
+      pub word_other : same w task_word ≡ false → Unknown ≡ leading w
+      word_other e = rw (not-tick, not-server, e)
 
 pub leads_tick : ATick ≡ leading tick_word
 unfolding same tick_word
@@ -250,7 +250,7 @@ module _ (text w : List ℕ) (is-high : high w ≡ true) (stands : led_by w text
       rw (zero-add (length w)) at
       (end_past_high text 0 (length w) (omega (arith, long)) (λ j h.
       rw (zero-add j, byte j (omega arith), get_or-append w (tab ∷ []) 0 j h) (high_at w j is-high h)))
-      ∙ sym (end-tab text (length w) long (byte (length w) (omega arith) ∙ seam))
+      ∙ sym (end_tab text (length w) long (byte (length w) (omega arith) ∙ seam))
     where
       seam : get_or (w ++ (tab ∷ [])) (length w) 0 ≡ 9
       seam = get_or-append_seam w tab [] 0

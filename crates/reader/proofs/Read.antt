@@ -44,10 +44,10 @@ module _ (n : ℕ) (a : Rows) (some : is_nil a.tasks ≡ false) where
   ended_servers e = rw (some, e)
 
   module _ (e : equal_servers a.servers ≡ Differ) where
-    pub ended-tasks : {m i j : ℕ} → length a.servers ≡ m → equal_tasks a.tasks ≡ Equal i j →
+    pub ended_tasks : {m i j : ℕ} → length a.servers ≡ m → equal_tasks a.tasks ≡ Equal i j →
         equal (2 + m + i) (2 + m + j) ≡ ended n a
     unfolding ended compared
-    ended-tasks c f = rw (some, e, c, f)
+    ended_tasks c f = rw (some, e, c, f)
 
     pub ended_taken : (t : Table) → a ≡ rows_of t → t ≡ table_of (rows_of t) →
         equal_tasks a.tasks ≡ Differ →

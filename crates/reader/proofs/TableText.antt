@@ -24,10 +24,10 @@ lent text at = take_all (length text - at) (drop at text) (omega (arith, length-
 module _ {A L : Type 0} (k : TableText A L) where
   -- line n begins at `from` and ends at e
   module _ (n : ℕ) (a : A) (text : List ℕ) (from e : ℕ) (ends : e ≡ from + length (first_line (drop from text))) where
-    pub from-unclosed : length text ≤ e → from < length text →
+    pub from_unclosed : length text ≤ e → from < length text →
         refused_beside k.none Malformed n 0 ≡ read_lines k n a (split line_feed (drop from text))
     unfolding read_lines
-    from-unclosed h g =
+    from_unclosed h g =
         rw (
           line_open (drop from text) (omega (arith, length-drop from text)),
           not_nil (drop from text) (omega (arith, length-drop from text)),
@@ -40,10 +40,10 @@ module _ {A L : Type 0} (k : TableText A L) where
         let q : from + suc m ≡ e + 1 = omega arith in
         rw (drop-drop (suc m) from text, q) at (line_closed (drop from text) (omega (arith, length-drop from text)))
 
-    from-closed : (l : L) → e < length text → l ≡ k.says (first_line (drop from text)) →
+    from_closed : (l : L) → e < length text → l ≡ k.says (first_line (drop from text)) →
         line_told k.none n (k.stands n a l) (read_lines k (n + 1) (k.grows a l) (split line_feed (drop (e + 1) text)))
         ≡ read_lines k n a (split line_feed (drop from text))
-    from-closed l h q =
+    from_closed l h q =
         rw (
           closed_at h,
           from_line
@@ -56,17 +56,17 @@ module _ {A L : Type 0} (k : TableText A L) where
           q,
         )
 
-    pub from-broken : (l : L) (why : Refusal) (field : ℕ) → e < length text →
+    pub from_broken : (l : L) (why : Refusal) (field : ℕ) → e < length text →
         l ≡ k.says (first_line (drop from text)) → k.stands n a l ≡ Broken why field →
         refused_beside k.none why n field ≡ read_lines k n a (split line_feed (drop from text))
-    from-broken l why field h q j = rw j at (from-closed l h q)
+    from_broken l why field h q j = rw j at (from_closed l h q)
 
     pub from_kept : (l : L) (b : A) → e < length text → l ≡ k.says (first_line (drop from text)) →
         k.stands n a l ≡ Kept → b ≡ k.grows a l →
         read_lines k n a (split line_feed (drop from text)) ≡
         read_lines k (n + 1) b (split line_feed (drop (e + 1) text))
     from_kept l b h q j g =
-        sym (rw j at (from-closed l h q))
+        sym (rw j at (from_closed l h q))
         ∙ ap (λ x. read_lines k (n + 1) x (split line_feed (drop (e + 1) text))) (sym g)
 
   pub from_end : (n : ℕ) (a : A) (text : List ℕ) (from : ℕ) → length text ≤ from →

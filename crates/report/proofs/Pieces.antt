@@ -263,9 +263,9 @@ module _ {s : Stand} {bytes : List ℕ} {at : ℕ} {z : Stand} {values told foun
             within = omega (arith, ticks_most t (events_in (before ++ lines)), ap length all, length-append old new);
           }
 
-      pub batch-handed : SomeTicks s.run.table.nservers s.run.table.ntasks f.ticks told' found'
+      pub batch_handed : SomeTicks s.run.table.nservers s.run.table.ntasks f.ticks told' found'
           z.servers z.tasks z.modes
-      batch-handed =
+      batch_handed =
           let x = b.start in
           let ahead = x.1 ++ take at bytes in (
             x.0,
@@ -282,8 +282,8 @@ module _ {s : Stand} {bytes : List ℕ} {at : ℕ} {z : Stand} {values told foun
           abbrev stands : Stand
           stands = record { run = f.run; held = c.held; servers = us; tasks = vs; modes = ws }
 
-          batch-reads : Reads (take c.eaten rest) z stands
-          batch-reads t ahead a =
+          batch_reads : Reads (take c.eaten rest) z stands
+          batch_reads t ahead a =
               let before = lines_in [] ahead in
               let first = left_in [] ahead in
               let same : held_of first ≡ held_of (line_in z.held) =
@@ -306,17 +306,17 @@ module _ {s : Stand} {bytes : List ℕ} {at : ℕ} {z : Stand} {values told foun
                 sized = a.sized;
               })
 
-          pub batch-next : {left' told'' found'' : List ℕ} → length left' ≡ length values →
+          pub batch_next : {left' told'' found'' : List ℕ} → length left' ≡ length values →
               length told'' ≡ length told → length found'' ≡ length found →
               Going s bytes (at + c.eaten) stands left' told'' found''
-          batch-next lv lt lf =
+          batch_next lv lt lf =
               let all : take at bytes ++ take c.eaten rest ≡ take (at + c.eaten) bytes =
               ap (λ x. take at bytes ++ take c.eaten x) rest_is ∙ sym (take-add at c.eaten bytes) in
               record {
                 within = batch_eaten.1;
                 reads =
                     subst (λ p. Reads p s stands) all
-                    (reads_then (take at bytes) (take c.eaten rest) b.going.reads batch-reads);
+                    (reads_then (take at bytes) (take c.eaten rest) b.going.reads batch_reads);
                 table =
                     ap (λ (x : LentBoth). x.finding.run.table) found_is ∙ lines_table z.run lines ∙
                     b.going.table;

@@ -177,9 +177,9 @@ rises_and_is_cut = refl
 
 -- "Used counts stay; only the capacity compared with them changes": of that run, which was in N,
 -- D1, D2 and N
-pub used-over-modes : map (used_at (state_after (Release 0 ∷ replicate 4 (Tick false)))) (0 ∷ 1 ∷ 2 ∷ []) ≡ 1 ∷ 3 ∷ 0 ∷ []
+pub used_over_modes : map (used_at (state_after (Release 0 ∷ replicate 4 (Tick false)))) (0 ∷ 1 ∷ 2 ∷ []) ≡ 1 ∷ 3 ∷ 0 ∷ []
 unfolding computed
-used-over-modes = refl
+used_over_modes = refl
 
 -- "otherwise it is cut. A LO job in N .. now cut": at its limit of 1, and the tick stays in N; the
 -- next one is finished by mark.

@@ -44,7 +44,7 @@ use Rattle.events.proofs.Boxes.{after_keeps as after-keeps-in}
 use Rattle.run.specs.Events.{event_of, the_box, after}
 use Rattle.run.proofs.Taken.{ReleaseTaken, release_taken, ticked_taken, release_ind, tick_ind}
 use Rattle.run.proofs.Shape.{Shaped, RunShaped, event_run_shaped, settle_counts, fresh_run_shaped}
-use Rattle.run.proofs.Tick.{used-settled, elapsed_settled, used-after, elapsed_after, charged_able, able_room}
+use Rattle.run.proofs.Tick.{used_settled, elapsed_settled, used_after, elapsed_after, charged_able, able_room}
 use Rattle.run.proofs.Tick.{force_low, charged_passes, passes_most, passes_late, late_before, started_settled}
 use Rattle.run.proofs.Tick.{ran_front}
 use Rattle.run.proofs.Sound.{ServerSound, TaskSound, LastSound, CountsSound, StateSound, sound_table, sound_state_lem}
@@ -175,9 +175,9 @@ module _ (t : Table) (s : State) (mark : Bool) (rules : TableRules t) (h : Shape
       let z = (settle t s mark).state in
       let p = f.servers i l in
       let r = refilled (used_at s i) (elapsed_at s i) (period_at t i) p.used p.elapsed (rules.server i l).period_low in
-      let uz = used-settled t s mark i l rules.servers_high h in
+      let uz = used_settled t s mark i l rules.servers_high h in
       let ez = elapsed_settled t s mark i l rules.servers_high h in
-      let ua = used-after t s mark i l rules.servers_high h in
+      let ua = used_after t s mark i l rules.servers_high h in
       let ea = elapsed_after t s mark i l rules.servers_high h in
       record {
         elapsed = omega (arith, r.1, passes_most t z i);

@@ -58,8 +58,8 @@ queues_alike s m qs p q =
       runs = q;
     }
 
-pub mode-alike : (s : State) (m : Mode) → Alike s (with_mode s m)
-mode-alike s m = queues_alike s m (queues_of s) refl refl
+pub mode_alike : (s : State) (m : Mode) → Alike s (with_mode s m)
+mode_alike s m = queues_alike s m (queues_of s) refl refl
 
 front_alike : (s : State) (m : Mode) (k : ℕ) → Alike s (without_front (with_mode s m) k)
 front_alike s m k =
@@ -88,11 +88,11 @@ alike_shaped a h =
 
 pub step1_alike : (t : Table) (s : State) (mark : Bool) (l : Last) → Alike s (step1 t s mark l).state
 unfolding step1
-step1_alike t s mark NoJob = mode-alike s s.mode
+step1_alike t s mark NoJob = mode_alike s s.mode
 step1_alike t s true (Job k) = front_alike s s.mode k
 step1_alike t s false (Job k) =
     let j = judge 3 (task_at t k) (runs_at s k) s.mode in
-    if_ind (λ (m : Marked). Alike s m.state) j.cut (λ e. front_alike s j.mode k) (λ e. mode-alike s j.mode)
+    if_ind (λ (m : Marked). Alike s m.state) j.cut (λ e. front_alike s j.mode k) (λ e. mode_alike s j.mode)
 
 pub step2_alike : (t : Table) (before : Mode) (s : State) → Alike s (step2 t before s)
 unfolding step2
@@ -101,7 +101,7 @@ step2_alike t before s =
 
 pub step3_alike : (t : Table) (s : State) → Alike s (step3 t s)
 unfolding step3
-step3_alike t s = if_ind (Alike s) (some_waits t s) (λ e. mode-alike s s.mode) (λ e. mode-alike s N)
+step3_alike t s = if_ind (Alike s) (some_waits t s) (λ e. mode_alike s s.mode) (λ e. mode_alike s N)
 
 -- the state after steps 1 to 3
 unfoldable pub step123 : Table → State → Bool → State

@@ -40,8 +40,8 @@ use Rattle.run.specs.Tick.{step4, Settled, settle, choose, advance, tick_answer,
 use Rattle.run.specs.Events.{event_of, after}
 use Rattle.run.proofs.Judge.{below_limit, raises_mode, is_cut}
 use Rattle.run.proofs.Taken.{release_ind}
-use Rattle.run.proofs.Shape.{Shaped, RunShaped, alike_shaped, mode-alike, step1_alike, event_run_shaped}
-use Rattle.run.proofs.Tick.{used-settled}
+use Rattle.run.proofs.Shape.{Shaped, RunShaped, alike_shaped, mode_alike, step1_alike, event_run_shaped}
+use Rattle.run.proofs.Tick.{used_settled}
 use Rattle.events.proofs.Answers.{one_same, one_eq}
 use Rattle.queues.proofs.Queues.{set_at}
 use Rattle.run.proofs.Steps.{step2_mode, step2_runs, step2_counted, step3_runs}
@@ -107,16 +107,16 @@ next_starts t s mark k rules h l e =
 
 -- "Used counts stay": whatever becomes of the mode, step 5 finds the used count as it was unless
 -- the period ended, and then 0.
-pub used-stays : (t : Table) (s : State) (mark : Bool) (i : ℕ) → i < t.nservers → t.nservers ≤ 32 → Shaped s →
+pub used_stays : (t : Table) (s : State) (mark : Bool) (i : ℕ) → i < t.nservers → t.nservers ≤ 32 → Shaped s →
     (elapsed_at s i ≡ period_at t i → ⊥) → used_at (settle t s mark).state i ≡ used_at s i
-used-stays t s mark i l few h n =
-    used-settled t s mark i l few h ∙
+used_stays t s mark i l few h n =
+    used_settled t s mark i l few h ∙
     ap (λ (b : Bool). if b then 0 else used_at s i) (ne_eqb (elapsed_at s i) (period_at t i) n)
 
-pub used-anew : (t : Table) (s : State) (mark : Bool) (i : ℕ) → i < t.nservers → t.nservers ≤ 32 → Shaped s →
+pub used_anew : (t : Table) (s : State) (mark : Bool) (i : ℕ) → i < t.nservers → t.nservers ≤ 32 → Shaped s →
     elapsed_at s i ≡ period_at t i → used_at (settle t s mark).state i ≡ 0
-used-anew t s mark i l few h e =
-    used-settled t s mark i l few h ∙
+used_anew t s mark i l few h e =
+    used_settled t s mark i l few h ∙
     ap (λ (b : Bool). if b then 0 else used_at s i) (eq-eqb (elapsed_at s i) (period_at t i) e)
 
 -- "After a rise, judge again at the new limit": a HI job at its limits in N and in D1 rises twice,
@@ -176,7 +176,7 @@ rises_twice t s k many h l w last mode high n d b =
     is = again_one t s k false last mode high n d (ne_eqb (runs_at s k) (limit_at t D2 k) (λ e. omega arith))
 
     stays : (step3 t (step2 t s.mode (with_mode s D2))).mode ≡ D2
-    stays = waits_on t s.mode (with_mode s D2) k many (alike_shaped (mode-alike s D2) h) l w (ap is_low high)
+    stays = waits_on t s.mode (with_mode s D2) k many (alike_shaped (mode_alike s D2) h) l w (ap is_low high)
 
 pub cut_at_once : (t : Table) (s : State) (k : ℕ) → s.last ≡ Job k → s.mode ≡ N → (task_at t k).level ≡ HI →
     runs_at s k ≡ limit_at t N k → runs_at s k ≡ limit_at t D1 k → runs_at s k ≡ limit_at t D2 k →

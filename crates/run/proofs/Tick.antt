@@ -47,9 +47,9 @@ step4_elapsed : (t : Table) (s : State) (i : ℕ) → i < t.nservers → t.nserv
 unfolding step4
 step4_elapsed t s i l few h = anew_at t.nservers _ s.elapsed i 0 l (omega (arith, h.elapsed))
 
-pub used-settled : (t : Table) (s : State) (mark : Bool) (i : ℕ) → i < t.nservers → t.nservers ≤ 32 → Shaped s →
+pub used_settled : (t : Table) (s : State) (mark : Bool) (i : ℕ) → i < t.nservers → t.nservers ≤ 32 → Shaped s →
     used_at (settle t s mark).state i ≡ (if eqb (elapsed_at s i) (period_at t i) then 0 else used_at s i)
-used-settled t s mark i l few h =
+used_settled t s mark i l few h =
     let a = step123_alike t s mark in
     rw (settle_is t s mark, step4_used t (step123 t s mark) i l few (alike_shaped a h), a.used, a.elapsed)
 
@@ -59,11 +59,11 @@ elapsed_settled t s mark i l few h =
     let a = step123_alike t s mark in
     rw (settle_is t s mark, step4_elapsed t (step123 t s mark) i l few (alike_shaped a h), a.elapsed)
 
-pub used-after : (t : Table) (s : State) (mark : Bool) (i : ℕ) → i < t.nservers → t.nservers ≤ 32 → Shaped s →
+pub used_after : (t : Table) (s : State) (mark : Bool) (i : ℕ) → i < t.nservers → t.nservers ≤ 32 → Shaped s →
     used_at (tick_taken t s mark).state i ≡
     used_at (settle t s mark).state i + charged (choose t (settle t s mark).state) i
 unfolding tick_taken advance
-used-after t s mark i l few h =
+used_after t s mark i l few h =
     anew_at t.nservers _ (settle t s mark).state.used i 0 l (omega (arith, (settle_shaped t s mark h).used))
 
 pub elapsed_after : (t : Table) (s : State) (mark : Bool) (i : ℕ) → i < t.nservers → t.nservers ≤ 32 → Shaped s →
@@ -73,9 +73,9 @@ unfolding tick_taken advance
 elapsed_after t s mark i l few h =
     anew_at t.nservers _ (settle t s mark).state.elapsed i 0 l (omega (arith, (settle_shaped t s mark h).elapsed))
 
-pub mode-after : (t : Table) (s : State) (mark : Bool) → (tick_taken t s mark).state.mode ≡ (settle t s mark).state.mode
+pub mode_after : (t : Table) (s : State) (mark : Bool) → (tick_taken t s mark).state.mode ≡ (settle t s mark).state.mode
 unfolding tick_taken advance
-mode-after t s mark = refl
+mode_after t s mark = refl
 
 -- "the tick number" rises by 1, and no release is counted
 pub ticks_after : (t : Table) (s : State) (mark : Bool) → (tick_taken t s mark).state.ticks.0 ≡ s.ticks.0 + 1
@@ -122,14 +122,14 @@ unfolding tick_taken
 answer_turn t s mark = refl
 
 -- a release changes neither used nor elapsed nor the mode
-pub used-released : (s : State) (k i : ℕ) → used_at (with_job s k) i ≡ used_at s i
-used-released s k i = refl
+pub used_released : (s : State) (k i : ℕ) → used_at (with_job s k) i ≡ used_at s i
+used_released s k i = refl
 
 pub elapsed_released : (s : State) (k i : ℕ) → elapsed_at (with_job s k) i ≡ elapsed_at s i
 elapsed_released s k i = refl
 
-pub mode-released : (s : State) (k : ℕ) → (with_job s k).mode ≡ s.mode
-mode-released s k = refl
+pub mode_released : (s : State) (k : ℕ) → (with_job s k).mode ≡ s.mode
+mode_released s k = refl
 
 -- Who is charged is the highest able server.
 charged_turn : (j : ℕ) (a : Found) (i : ℕ) → charged (turn_of j a) i ≡ one j i

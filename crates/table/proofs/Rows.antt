@@ -36,17 +36,17 @@ low_exactly l = (to l, λ e. ap is_low e)
     to MI e = absurd (clash false e refl)
     to HI e = absurd (clash false e refl)
 
-pub mode-back : (m : Mode) → mode_said (mode_value m) ≡ m
-mode-back N = refl
-mode-back D1 = refl
-mode-back D2 = refl
+pub mode_back : (m : Mode) → mode_said (mode_value m) ≡ m
+mode_back N = refl
+mode_back D1 = refl
+mode_back D2 = refl
 
-pub mode-again : (k : ℕ) → k < 3 → mode_value (mode_said k) ≡ k
-mode-again zero h = refl
-mode-again (suc zero) h = refl
-mode-again (suc (suc k)) h = omega arith
+pub mode_again : (k : ℕ) → k < 3 → mode_value (mode_said k) ≡ k
+mode_again zero h = refl
+mode_again (suc zero) h = refl
+mode_again (suc (suc k)) h = omega arith
 
-pub mode-below : (m : Mode) → mode_value m < 3
-mode-below N = omega arith
-mode-below D1 = omega arith
-mode-below D2 = omega arith
+pub mode_below : (m : Mode) → mode_value m < 3
+mode_below N = omega arith
+mode_below D1 = omega arith
+mode_below D2 = omega arith

@@ -227,25 +227,25 @@ module _ {A L : Type 0} (k : TableText A L) where
       P (refused_beside k.none why n field))
       (unclosed : (n : ℕ) → P (refused_beside k.none Malformed n 0))
       (ends : (n : ℕ) (a : A) → P (k.ends n a)) where
-    lines-ind : (n : ℕ) (a : A) (ps : List (List ℕ)) → P (read_lines k n a ps)
+    lines_ind : (n : ℕ) (a : A) (ps : List (List ℕ)) → P (read_lines k n a ps)
     unfolding read_lines
-    lines-ind n a [] = unclosed n
-    lines-ind n a (l ∷ []) = if_ind P (is_nil l) (λ e. ends n a) (λ e. unclosed n)
-    lines-ind n a (l ∷ (m ∷ ms)) =
-        go (k.stands n a (k.says l)) refl (lines-ind (n + 1) (k.grows a (k.says l)) (m ∷ ms))
+    lines_ind n a [] = unclosed n
+    lines_ind n a (l ∷ []) = if_ind P (is_nil l) (λ e. ends n a) (λ e. unclosed n)
+    lines_ind n a (l ∷ (m ∷ ms)) =
+        go (k.stands n a (k.says l)) refl (lines_ind (n + 1) (k.grows a (k.says l)) (m ∷ ms))
       where
         go : (s : Standing) → k.stands n a (k.says l) ≡ s → {r : ReadOf A} → P r → P (line_told k.none n s r)
         go Kept e p = p
         go (Broken why field) e p = broken n a (k.says l) why field e
 
-    pub text-ind : P (refused_beside k.none OutOfBounds 0 0) → (text : List ℕ) → P (read_text k text)
+    pub text_ind : P (refused_beside k.none OutOfBounds 0 0) → (text : List ℕ) → P (read_text k text)
     unfolding read_text
-    text-ind long text =
-        if_ind P (leb (length text) 16384) (λ e. lines-ind 1 k.none (split line_feed text)) (λ e. long)
+    text_ind long text =
+        if_ind P (leb (length text) 16384) (λ e. lines_ind 1 k.none (split line_feed text)) (λ e. long)
 
   -- "a refused read hands back no table": so it is, if it is so of every end
   pub taken_or_none : ((n : ℕ) (a : A) → ((k.ends n a).answer ≡ Taken) ⊎ ((k.ends n a).rows ≡ k.none)) →
       (text : List ℕ) → ((read_text k text).answer ≡ Taken) ⊎ ((read_text k text).rows ≡ k.none)
   taken_or_none ends text =
-      text-ind (λ r. (r.answer ≡ Taken) ⊎ (r.rows ≡ k.none)) (λ n a l why field e. inr refl)
+      text_ind (λ r. (r.answer ≡ Taken) ⊎ (r.rows ≡ k.none)) (λ n a l why field e. inr refl)
       (λ n. inr refl) ends (inr refl) text

@@ -68,9 +68,9 @@ example_fits = refl
 
 -- Row 1 misses in D1 and D2, row 2 in N, D1 and D2: the least mode is looked for before the least
 -- row. In N row 2 needs 2 + 2 + 1 of its 4 ticks.
-pub mode-before-row : fits_of (three Timed (by_mode 2 2 2) (by_mode 2 3 3) (by_mode 1 1 1)) ≡ Miss N 2
+pub mode_before_row : fits_of (three Timed (by_mode 2 2 2) (by_mode 2 3 3) (by_mode 1 1 1)) ≡ Miss N 2
 unfolding computed
-mode-before-row = refl
+mode_before_row = refl
 
 -- Rows 1 and 2 miss in D1: the first is told.
 pub first_of_a_mode : fits_of (three Timed (by_mode 1 2 2) (by_mode 1 3 3) (by_mode 1 1 1)) ≡ Miss D1 1

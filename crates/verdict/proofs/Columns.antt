@@ -45,19 +45,19 @@ module _ (periods capacities late : List ℕ) where
 
   module _ (n : ℕ) (k : Columns n periods capacities late) where
     -- the first i servers ask at most 3,000,000 ticks each
-    pub in-le : (r i : ℕ) → r ≤ 1000000 → i ≤ n → interference_in i periods capacities late r ≤ i * 3000000
+    pub in_le : (r i : ℕ) → r ≤ 1000000 → i ≤ n → interference_in i periods capacities late r ≤ i * 3000000
     unfolding interference_in
-    in-le r i h l =
+    in_le r i h l =
         sum_most (asked_at r) 3000000 i
         (λ j m. part_le (up (r + get_or late j 0) (get_or periods j 0)) r (get_or periods j 0) (get_or capacities j 0)
         (get_or late j 0) refl
         (k.server j (omega arith)) h)
 
     -- "I(R)" never falls as R grows
-    pub in-rises : (r x : ℕ) → r ≤ x →
+    pub in_rises : (r x : ℕ) → r ≤ x →
         interference_in n periods capacities late r ≤ interference_in n periods capacities late x
     unfolding interference_in
-    in-rises r x h =
+    in_rises r x h =
         sum_le (asked_at r) (asked_at x) n
         (λ j m. mul-le-mul_right (get_or capacities j 0)
         (up_mono (r + get_or late j 0) (x + get_or late j 0) (get_or periods j 0) (k.server j m).period_low (omega arith)))

@@ -109,8 +109,8 @@ module _ (t : Table) (m : Mode) (k : ℕ) (periods capacities late : List ℕ) w
       }
 
   module _ (i n : ℕ) (x : Passed t m k i n periods capacities late) where
-    row-left : ((r : ℕ) → part_at t m k r i ≡ 0) → Passed t m k (i + 1) n periods capacities late
-    row-left z =
+    row_left : ((r : ℕ) → part_at t m k r i ≡ 0) → Passed t m k (i + 1) n periods capacities late
+    row_left z =
         record {
           few = omega (arith, x.few);
           periods_long = x.periods_long;
@@ -121,17 +121,17 @@ module _ (t : Table) (m : Mode) (k : ℕ) (periods capacities late : List ℕ) w
         }
 
     -- a row that is not higher, and one without capacity, is left out
-    pub lower-passed : priority_at t i ≤ priority_at t k → Passed t m k (i + 1) n periods capacities late
-    lower-passed h = row-left (λ r. part_lower t m k r i h)
+    pub lower_passed : priority_at t i ≤ priority_at t k → Passed t m k (i + 1) n periods capacities late
+    lower_passed h = row_left (λ r. part_lower t m k r i h)
 
-    pub idle-passed : (c : ℕ) → c ≡ capacity_at t m i → c ≡ 0 → Passed t m k (i + 1) n periods capacities late
-    idle-passed c e z = row-left (λ r. part_none t m k r i (omega arith))
+    pub idle_passed : (c : ℕ) → c ≡ capacity_at t m i → c ≡ 0 → Passed t m k (i + 1) n periods capacities late
+    idle_passed c e z = row_left (λ r. part_none t m k r i (omega arith))
 
     -- any other is put into the columns
-    pub higher-passed : (c l : ℕ) → i < 32 → ServerRules t i → priority_at t k < priority_at t i → c ≡ capacity_at t m i →
+    pub higher_passed : (c l : ℕ) → i < 32 → ServerRules t i → priority_at t k < priority_at t i → c ≡ capacity_at t m i →
         l ≡ late_of (server_at t i).kind (period_at t i) c →
         Passed t m k (i + 1) (n + 1) (set periods n (period_at t i)) (set capacities n c) (set late n l)
-    higher-passed c l b row h e f =
+    higher_passed c l b row h e f =
         let p = period_at t i in
         let a : n < length periods = omega (arith, x.few, x.periods_long) in
         let g : n < length capacities = omega (arith, x.few, x.capacities_long) in
@@ -160,10 +160,10 @@ module _ (t : Table) (m : Mode) (k : ℕ) (periods capacities late : List ℕ) w
               );
         }
 
-    pub all-passed : i ≡ t.nservers → i ≤ 32 →
+    pub all_passed : i ≡ t.nservers → i ≤ 32 →
         Delaying t m k (record { count = n; periods = periods; capacities = capacities; late = late })
     unfolding interference
-    all-passed e h =
+    all_passed e h =
         record {
           columns = record { few = omega (arith, x.few); server = x.server };
           asks = λ r. rw (← e) (x.asks r);

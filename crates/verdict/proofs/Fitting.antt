@@ -21,7 +21,7 @@ use Rattle.table.specs.declared.Refusal.TheVariants.{NoServer, Unsound}
 use Rattle.table.specs.declared.Table.{Table}
 use Rattle.table.specs.Rows.{mode_value, mode_said}
 use Rattle.table.specs.Rules.{table_keeps}
-use Rattle.table.proofs.Rows.{mode-back, mode-again, mode-below}
+use Rattle.table.proofs.Rows.{mode_back, mode_again, mode_below}
 use Rattle.table.proofs.Rules.{few_servers}
 use Rattle.verdict.specs.declared.Verdict.{Verdict}
 use Rattle.verdict.specs.declared.Verdict.TheVariants.{Response, Misses, No}
@@ -128,28 +128,28 @@ module _ (t : Table) (m : Mode) where
       ap (λ v. is_miss (verdict_in v m)) (verdicts_at t i (no_verdicts NoServer) h) ∙ ap is_miss (row_in_lem t i m)
 
   module _ (keeps : table_keeps t ≡ true) where
-    absent-not : (i : ℕ) → t.nservers ≤ i → misses i ≡ false
-    absent-not i h = ap is_miss (verdict_absent t m i keeps h)
+    absent_not : (i : ℕ) → t.nservers ≤ i → misses i ≡ false
+    absent_not i h = ap is_miss (verdict_absent t m i keeps h)
 
     pub row_told : (i : ℕ) (f : Found) → i < t.nservers → response_at t m i ≡ f → misses i ≡ is_miss (told f)
     row_told i f h e = ap is_miss (verdict_told t m i keeps h ∙ ap told e)
 
-    pub row-misses : (i : ℕ) → i < t.nservers → misses i ≡ true → NoneMisses i → At i ≡ least_row (verdicts_of t) m
+    pub row_misses : (i : ℕ) → i < t.nservers → misses i ≡ true → NoneMisses i → At i ≡ least_row (verdicts_of t) m
     unfolding least_row
-    row-misses i h e none =
+    row_misses i h e none =
         let few = few_servers t keeps in
         is_least read 0 (length (verdicts_of t)) (At i)
         (hit i (omega arith) (omega (arith, verdicts_length t)) (read_at i (omega arith) ∙ e)
         (λ k l u. read_at k (omega arith) ∙ none k u))
 
-    pub no-row-misses : NoneMisses t.nservers → Nothing ≡ least_row (verdicts_of t) m
+    pub no_row_misses : NoneMisses t.nservers → Nothing ≡ least_row (verdicts_of t) m
     unfolding least_row
-    no-row-misses none =
+    no_row_misses none =
         is_least read 0 (length (verdicts_of t)) Nothing
         (miss (λ k l u. let h : k < 32 = omega (arith, verdicts_length t) in read_at k h ∙ row k (le_or_lt t.nservers k)))
       where
         row : (k : ℕ) → (t.nservers ≤ k) ⊎ (k < t.nservers) → misses k ≡ false
-        row k (inl l) = absent-not k l
+        row k (inl l) = absent_not k l
         row k (inr l) = none k l
 
   -- what is found, and what it says where nothing is
@@ -212,7 +212,7 @@ pub data Answers (t : Table) : Fits → Type 0 where
 module _ (t : Table) where
   -- in the mode that a number says, nothing is found
   none_in : table_keeps t ≡ true → (k : ℕ) → ((i : ℕ) → verdict_of t i (mode_said k) ≡ Misses → ⊥) → row_in t k ≡ Nothing
-  none_in e k h = sym (no-row-misses t (mode_said k) e (λ i l. no_miss (verdict_of t i (mode_said k)) (h i)))
+  none_in e k h = sym (no_row_misses t (mode_said k) e (λ i l. no_miss (verdict_of t i (mode_said k)) (h i)))
 
   -- the answer says one of these
   pub fits_is : Answers t (fits_of t)
@@ -222,7 +222,7 @@ module _ (t : Table) where
       earlier : (n : Mode) (k : ℕ) → mode_value n < k → ((j : ℕ) → j < k → row_in t j ≡ Nothing) → (i : ℕ) →
           verdict_of t i n ≡ Misses → ⊥
       earlier n k h f i =
-          row_none t n (ap (least_row (verdicts_of t)) (sym (mode-back n)) ∙ f (mode_value n) h) i
+          row_none t n (ap (least_row (verdicts_of t)) (sym (mode_back n)) ∙ f (mode_value n) h) i
 
       made : (a : Fits) → table_keeps t ≡ true → First (λ k. Miss (mode_said k)) Yes (row_in t) 3 a → Answers t a
       made a e (first k i f) =
@@ -232,10 +232,10 @@ module _ (t : Table) where
             missed = p.0;
             modes =
                 λ n j h.
-                earlier n k (omega (arith, mode-again k f.below)) f.none_before j;
+                earlier n k (omega (arith, mode_again k f.below)) f.none_before j;
             rows = p.1;
           })
-      made a e (nowhere f) = none e (λ m i. earlier m 3 (mode-below m) f i)
+      made a e (nowhere f) = none e (λ m i. earlier m 3 (mode_below m) f i)
 
       go : (table_keeps t ≡ true) ⊎ (table_keeps t ≡ false) → Answers t (fits_of t)
       go (inr e) = subst (Answers t) (fits_unsound t e) (unsound e)
@@ -251,16 +251,16 @@ module _ (t : Table) where
       let s = ((misses_exactly t m i).0 l.missed).0 in
       let e = s.keeps in
       let k = mode_value m in
-      ap (λ n. Miss n i) (sym (mode-back m))
+      ap (λ n. Miss n i) (sym (mode_back m))
       ∙ fits_miss t e k i
       (record {
-        below = mode-below m;
+        below = mode_below m;
         found =
-            ap (least_row (verdicts_of t)) (mode-back m)
+            ap (least_row (verdicts_of t)) (mode_back m)
             ∙ sym
-            (row-misses t m e i s.there (ap is_miss l.missed) (λ j h. no_miss (verdict_of t j m) (l.rows j h)));
+            (row_misses t m e i s.there (ap is_miss l.missed) (λ j h. no_miss (verdict_of t j m) (l.rows j h)));
         none_before =
             λ j h.
             none_in e j
-            (λ y. l.modes (mode_said j) y (omega (arith, mode-again j (omega (arith, mode-below m)))));
+            (λ y. l.modes (mode_said j) y (omega (arith, mode_again j (omega (arith, mode_below m)))));
       })

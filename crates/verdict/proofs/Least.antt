@@ -17,7 +17,7 @@ use Rattle.table.specs.Rows.{period_at, capacity_at}
 use Rattle.verdict.specs.declared.Higher.{Higher}
 use Rattle.verdict.specs.Verdict.{meets, response_at}
 use Rattle.verdict.specs.Inner.{interference_in, meets_in, Columns, Delaying}
-use Rattle.verdict.proofs.Columns.{in-rises}
+use Rattle.verdict.proofs.Columns.{in_rises}
 
 module _ (n : ℕ) (periods capacities late : List ℕ) (c : ℕ) where
   pub next_tried : Columns n periods capacities late → (r d : ℕ) → d ≡ interference_in n periods capacities late r →
@@ -29,7 +29,7 @@ module _ (n : ℕ) (periods capacities late : List ℕ) (c : ℕ) where
       (λ x. c + interference_in n periods capacities late x)
       1
       r
-      (λ x h. omega (arith, in-rises periods capacities late n k r x h))
+      (λ x h. omega (arith, in_rises periods capacities late n k r x h))
       none)
 
   pub found_least : (r d p : ℕ) → d ≡ interference_in n periods capacities late r → 1 ≤ r → r ≤ p → c + d ≤ r →

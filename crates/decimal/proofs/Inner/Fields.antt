@@ -33,15 +33,15 @@ module _ (text : List ℕ) (at : ℕ) where
   end_past h = rw (drop_of_length-le text h, add-zero at)
 
   module _ (here : at < length text) where
-    pub end-feed : get_or text at 0 ≡ 10 → record { at = at; more = false } ≡ field_end text at
+    pub end_feed : get_or text at 0 ≡ 10 → record { at = at; more = false } ≡ field_end text at
     unfolding field_end split
-    end-feed e =
+    end_feed e =
         rw
         (drop-cons text at 0 here, line_feed_lem (get_or text at 0) (drop (suc at) text) (eq-eqb _ 10 e), add-zero at)
 
-    pub end-tab : get_or text at 0 ≡ 9 → record { at = at; more = true } ≡ field_end text at
+    pub end_tab : get_or text at 0 ≡ 9 → record { at = at; more = true } ≡ field_end text at
     unfolding field_end
-    end-tab e =
+    end_tab e =
         let q : eqb (get_or text at 0) 10 ≡ false = ne_eqb (get_or text at 0) 10 (λ p. omega (arith, e, p)) in
         let rest = first_line (drop (suc at) text) in
         rw (

@@ -11,7 +11,7 @@ use Rattle.events.specs.Boxes.{after_lines_in}
 use Rattle.framerun.specs.Sound.{frame_sound}
 use Rattle.framerun.specs.Events.{frame_box}
 use Rattle.framerun.proofs.Kept.{FrameShaped, frame_lines_keep}
-use Rattle.lines.proofs.Pieces.{Going, going_start, going-ready, going_next, going_done}
+use Rattle.lines.proofs.Pieces.{Going, going_start, going_ready, going_next, going_done}
 use Rattle.frameserving.specs.Buffer.{service_of}
 use borrow.Author.Rules.{rules}
 use Rattle.frame.proofs.answer_piece.Statement.{statement}
@@ -139,7 +139,7 @@ returns c =
       going_done frame_box n.run n.held s.args.bytes.now (keeps s) (length s.args.room.now) l.at
           l.put l.room
           l.run l.held l.invariant.0 c.loop-test.false,
-      going-ready frame_box n.run n.held s.args.bytes.now (keeps s) (length s.args.room.now) l.at l.put l.room
+      going_ready frame_box n.run n.held s.args.bytes.now (keeps s) (length s.args.room.now) l.at l.put l.room
           l.run l.held l.invariant.0,
     )
 

@@ -15,8 +15,8 @@ use Rattle.lines.specs.Serving.{batch}
 use Rattle.lines.specs.Inner.{Fit, is_taken}
 use Rattle.frameserving.specs.Buffer.{service_of}
 use Rattle.events.proofs.Values.{line_values_length}
-use Rattle.lines.proofs.Serving.{Telling, told-sound, told-unsound, printed_text}
-use Rattle.lines.proofs.Serving.{cut-unsound, cut-refused, cut-answered}
+use Rattle.lines.proofs.Serving.{Telling, told_sound, told_unsound, printed_text}
+use Rattle.lines.proofs.Serving.{cut_unsound, cut_refused, cut_answered}
 use Rattle.frameserving.proofs.Inner.{many_told}
 use Rattle.frameserving.proofs.answer_lines.Goals as goal
 use Rattle.frameserving.proofs.answer_lines.Goals.{After-answer_many-m, In-Taken}
@@ -43,8 +43,8 @@ pub returns-in_default : goal.returns-in_default
 returns-in_default c =
     let a = c.args in
     ap (λ x. service_of (record { served = x; room = a.room.now })) c.refused.ensures ∙
-    cut-unsound frame_box a.r a.h a.c (lines_said a.lines.now) a.room.now
-    (told-unsound frame_box a.r (lines_said a.lines.now) _ _ _ (telling (goal.at.returns-in_default c).After-answer_many-m)
+    cut_unsound frame_box a.r a.h a.c (lines_said a.lines.now) a.room.now
+    (told_unsound frame_box a.r (lines_said a.lines.now) _ _ _ (telling (goal.at.returns-in_default c).After-answer_many-m)
     (ap is_taken c.in_default.is))
 
 -- a box that answered is sound
@@ -53,14 +53,14 @@ unfolding batch
 is_sound c =
     let a = c.args in
     let m = c.answer_many-m in
-    told-sound frame_box a.r (lines_said a.lines.now) _ _ _ (many_told a.r a.lines.now (replicate (9 * batch) 0)
+    told_sound frame_box a.r (lines_said a.lines.now) _ _ _ (many_told a.r a.lines.now (replicate (9 * batch) 0)
     (fits a.lines.now _ c.requires) m.result m.new.told m.ensures) c.in-Taken.is
 
 pub returns-in_default-cut : goal.returns-in_default-cut
 returns-in_default-cut c =
     let a = c.args in
     ap (λ x. service_of (record { served = x; room = a.room.now })) c.refused-in_default-cut.ensures ∙
-    cut-refused frame_box a.r a.h a.c (lines_said a.lines.now) a.room.now (is_sound (goal.at.returns-in_default-cut c).In-Taken)
+    cut_refused frame_box a.r a.h a.c (lines_said a.lines.now) a.room.now (is_sound (goal.at.returns-in_default-cut c).In-Taken)
     (ap is_taken c.in_default-cut.is)
 
 -- there is as much of it
@@ -85,7 +85,7 @@ returns c =
     printed_text frame_box a.r a.lines.now _ a.room.now c.requires
     (ap (λ k. take k c.answer_many-m.new.told) n ∙ (telling (goal.at.returns c).After-answer_many-m).front (is_sound (goal.at.returns c).In-Taken)) _ _
     c.print_lines-p.ensures in
-    cut-answered frame_box a.r a.h a.c ls a.room.now (is_sound (goal.at.returns c).In-Taken) c.in-Taken-cut.is _ _ _
+    cut_answered frame_box a.r a.h a.c ls a.room.now (is_sound (goal.at.returns c).In-Taken) c.in-Taken-cut.is _ _ _
     ((telling (goal.at.returns c).After-answer_many-m).after (is_sound (goal.at.returns c).In-Taken))
     text.0
     text.1

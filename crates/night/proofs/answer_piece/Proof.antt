@@ -12,7 +12,7 @@ use Rattle.run.specs.Events.{the_box}
 use Rattle.run.specs.Many.{after_lines}
 use Rattle.run.proofs.Shape.{RunShaped}
 use Rattle.run.proofs.ManyLines.{lines_keep}
-use Rattle.lines.proofs.Pieces.{Going, going_start, going-ready, going_next, going_done}
+use Rattle.lines.proofs.Pieces.{Going, going_start, going_ready, going_next, going_done}
 use Rattle.serving.specs.Buffer.{service_of}
 use borrow.Author.Rules.{rules}
 use Rattle.night.proofs.answer_piece.Statement.{statement}
@@ -150,7 +150,7 @@ returns c =
       going_done the_box n.run n.held s.args.bytes.now (keeps s) (length s.args.room.now) l.at
           l.put l.room
           l.run l.held l.invariant.0 c.loop-test.false,
-      going-ready the_box n.run n.held s.args.bytes.now (keeps s) (length s.args.room.now) l.at l.put l.room
+      going_ready the_box n.run n.held s.args.bytes.now (keeps s) (length s.args.room.now) l.at l.put l.room
           l.run l.held l.invariant.0,
     )
 

@@ -121,31 +121,31 @@ module _ (least : ℕ) (text shape : List ℕ) (k at : ℕ) (r : Fields) where
     unfolding field_as
     end_read = ap (λ (x : Field). x.end) read
 
-    pub pass-next : f.end.more ≡ true →
+    pub pass_next : f.end.more ≡ true →
         passed least (map expected_of (drop k shape)) k r (fields_from text at) ≡
         passed least (map expected_of (drop (k + 1) shape)) (k + 1) (noted r k f.number)
         (fields_from text (f.end.at + 1))
-    pass-next m =
+    pass_next m =
         let cut = field_more text at (rw end_read at m) in
         rw (shape_next h, cut.0, number_read, end_read)
         (step least (expected_of (get_or shape k 0)) (map expected_of (drop (k + 1) shape)) k r
         (first_field text at) (fields_from text ((field_end text at).at + 1))
         (split_some tab (first_line (drop ((field_end text at).at + 1) text))))
 
-    pub line-next : f.end.more ≡ true → line_end text at ≡ line_end text (f.end.at + 1)
-    line-next m = rw end_read (line_behind_tab text at (rw end_read at m))
+    pub line_next : f.end.more ≡ true → line_end text at ≡ line_end text (f.end.at + 1)
+    line_next m = rw end_read (line_behind_tab text at (rw end_read at m))
 
-    pub next-within : f.end.more ≡ true → f.end.at < length text
-    next-within m = rw end_read (field_more text at (rw end_read at m)).1
+    pub next_within : f.end.more ≡ true → f.end.at < length text
+    next_within m = rw end_read (field_more text at (rw end_read at m)).1
 
-    pub pass-last : f.end.more ≡ false →
+    pub pass_last : f.end.more ≡ false →
         passed least (map expected_of (drop k shape)) k r (fields_from text at) ≡
         telling (counted least (k + 1) (noted r k f.number).wrong) (noted r k f.number)
     unfolding passed
-    pass-last m = rw (shape_next h, (field_last text at (rw end_read at m)).0, number_read)
+    pass_last m = rw (shape_next h, (field_last text at (rw end_read at m)).0, number_read)
 
-    pub line-last : f.end.more ≡ false → line_end text at ≡ f.end.at
-    line-last m = rw end_read (field_last text at (rw end_read at m)).1
+    pub line_last : f.end.more ≡ false → line_end text at ≡ f.end.at
+    line_last m = rw end_read (field_last text at (rw end_read at m)).1
 
   pub pass_over : length shape ≤ k →
       telling (At 0) r ≡ passed least (map expected_of (drop k shape)) k r (fields_from text at)

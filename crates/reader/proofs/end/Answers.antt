@@ -11,7 +11,7 @@ use Rattle.table.specs.declared.Table.{Table}
 use Rattle.text.specs.Read.{shown}
 use Rattle.reader.specs.Inner.{Above}
 use Rattle.reader.proofs.Inner.{servers_count, tasks_count, tasks_nil}
-use Rattle.reader.proofs.Read.{pair_below, ended_none, ended_servers, ended-tasks, ended_taken}
+use Rattle.reader.proofs.Read.{pair_below, ended_none, ended_servers, ended_tasks, ended_taken}
 use Rattle.reader.proofs.end.Goals as goal
 
 -- the rows of a pair that was found are rows in use
@@ -62,7 +62,7 @@ returns-in-Equal-q c =
     let some = tasks_nil t c.requires.whole ∙ ne_eqb _ 0 c.if-tasks-eq0.false in
     c.refuse_pair-in-Equal-q.ensures
     ∙ ap shown
-    (ended-tasks c.args.n (rows_of t) some (sym c.equal_servers-p.ensures ∙ c.in_default.is)
+    (ended_tasks c.args.n (rows_of t) some (sym c.equal_servers-p.ensures ∙ c.in_default.is)
     (servers_count t c.requires.whole) (sym c.equal_tasks-q.ensures ∙ c.in-Equal-q.is))
 
 pub returns : goal.returns

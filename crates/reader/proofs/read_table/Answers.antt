@@ -25,7 +25,7 @@ use Rattle.reader.proofs.Inner.{ServerGrows, TaskGrows, server_grows, task_grows
 use Rattle.reader.proofs.Inner.{put_tick, put_server, put_task, put_none}
 use Rattle.reader.proofs.Standing.{named_below, standing_by_lem}
 use Rattle.reader.proofs.Read.{starts, starts_from, line_lent}
-use Rattle.reader.proofs.TableText.{from-unclosed, from_end, from-broken, from_kept}
+use Rattle.reader.proofs.TableText.{from_unclosed, from_end, from_broken, from_kept}
 use Rattle.reader.proofs.read_table.Goals as goal
 use Rattle.reader.proofs.read_table.Goals.{in-OfTick, in-OfServer, in-OfTask, in-Malformed}
 
@@ -84,7 +84,7 @@ returns-then-e-text c =
     let said = line_lent s l.at c.read_line-r.result c.read_line-r.ensures in
     c.refuse-then-e-text.ensures
     ∙ ap shown
-    (from-unclosed table_text l.n (rows_of l.t) s l.at (l.at + c.read_line-r.result.end) (ap (λ x. l.at + x) said.1)
+    (from_unclosed table_text l.n (rows_of l.t) s l.at (l.at + c.read_line-r.result.end) (ap (λ x. l.at + x) said.1)
     (omega (arith, c.if-e-text.true)) (lt_of_le-ne l.invariant.0 c.if-at-text.false)
     ∙ sym l.invariant.3
     ∙ text_short table_text s c.if-text-gt-LONGEST_TEXT.false)
@@ -127,7 +127,7 @@ returns-in-Broken c =
     let ends = within s l.at _ said.1 l.invariant.0 in
     c.refuse-in-Broken.ensures
     ∙ ap shown
-    (from-broken table_text l.n (rows_of l.t) s l.at (l.at + c.read_line-r.result.end) (ap (λ x. l.at + x) said.1)
+    (from_broken table_text l.n (rows_of l.t) s l.at (l.at + c.read_line-r.result.end) (ap (λ x. l.at + x) said.1)
     x c.in-Broken.why c.in-Broken.field (lt_of_le-ne ends c.if-e-text.false) said.0
     (sym (c.line_standing-standing.ensures ∙ standing_by_lem l.n l.t l.invariant.2 _ _ c.named_rows-named.ensures) ∙ c.in-Broken.is)
     ∙ sym l.invariant.3

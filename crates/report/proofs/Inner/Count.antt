@@ -28,7 +28,7 @@ use Rattle.events.specs.declared.Told.TheVariants.{Ticked}
 use Rattle.run.specs.State.{waits}
 use Rattle.events.specs.Answers.{one, charged, finished_by, cut_by}
 use Rattle.table.specs.Rows.{mode_value}
-use Rattle.table.proofs.Rows.{mode-below}
+use Rattle.table.proofs.Rows.{mode_below}
 use Rattle.events.specs.Values.{turn_values, left_values, told_values}
 use Rattle.run.specs.Found.{TakenTick, found_values, all_found, all_told}
 use Rattle.queues.proofs.Queues.{set_at, set_past}
@@ -353,52 +353,52 @@ module _ (t : Table) (ms : List TakenTick) (m : TakenTick) where
     abbrev vacant : ℕ
     vacant = one_if (eqb (what_of turn) 1)
 
-    server-low : server_row < 32
-    server-low = server_below t.nservers turn few fits.server
+    server_low : server_row < 32
+    server_low = server_below t.nservers turn few fits.server
 
     server_room : 32 + server_row < length xs
-    server_room = omega (arith, server-low, c.long)
+    server_room = omega (arith, server_low, c.long)
 
-    rows-were : (j : ℕ) → 64 ≤ j → get_or (turn_counted (what_of turn) server_row xs) j 0 ≡ get_or xs j 0
-    rows-were j l = other_columns 32 server_row charge vacant xs server-low server_room j l
+    rows_were : (j : ℕ) → 64 ≤ j → get_or (turn_counted (what_of turn) server_row xs) j 0 ≡ get_or xs j 0
+    rows_were j l = other_columns 32 server_row charge vacant xs server_low server_room j l
 
     -- a job of it waits
     waits_found : (i : ℕ) → i < t.nservers → ltb 0 (get_or found i 0) ≡ waits t m.found i
     waits_found i l =
         ap (λ (x : List ℕ). ltb 0 (get_or x i 0)) e ∙ ap (ltb 0) (found_server t m i (omega arith)) ∙ fits.waits i l
 
-    row-then : (i : ℕ) → i < t.nservers → get_or ys (64 + i) 0 ≡ row_to (passed_over t i) 0 (ms ++ (m ∷ []))
+    row_then : (i : ℕ) → i < t.nservers → get_or ys (64 + i) 0 ≡ row_to (passed_over t i) 0 (ms ++ (m ∷ []))
     unfolding passed_over
-    row-then i l =
+    row_then i l =
         r.row i l
         ∙ ap (row_after (get_or (uncharged (what_of turn) server_row found) i 0))
-        (rows-were (64 + i) (omega arith) ∙ c.row i l)
-        ∙ row_told turn found i (row_to (passed_over t i) 0 ms) (omega (arith, server-low, ap length e, found_length t m))
+        (rows_were (64 + i) (omega arith) ∙ c.row i l)
+        ∙ row_told turn found i (row_to (passed_over t i) 0 ms) (omega (arith, server_low, ap length e, found_length t m))
         ∙ ap (λ (w : Bool). if w && eqb (charged turn i) 0 then suc (row_to (passed_over t i) 0 ms) else 0)
         (waits_found i l)
         ∙ sym (row_next (passed_over t i) 0 ms m)
 
-    servers-next : ServersCounted t (ms ++ (m ∷ [])) ys
-    servers-next =
+    servers_next : ServersCounted t (ms ++ (m ∷ [])) ys
+    servers_next =
         record {
-          long = r.long ∙ columns_length 32 server_row charge vacant xs server-low server_room ∙ c.long;
+          long = r.long ∙ columns_length 32 server_row charge vacant xs server_low server_room ∙ c.long;
           charged =
               λ i l.
               r.before i (omega arith)
-              ∙ first_column 32 server_row charge vacant xs server-low server_room i (omega arith)
+              ∙ first_column 32 server_row charge vacant xs server_low server_room i (omega arith)
               ∙ ap₂ ◌+◌ (c.charged i l) (turn_charged turn i)
               ∙ sym (over_next (λ x. charged x.answer.turn i) ms m);
           empty =
               λ i l.
               r.before (32 + i) (omega arith)
-              ∙ second_column 32 server_row charge vacant xs server-low server_room i
+              ∙ second_column 32 server_row charge vacant xs server_low server_room i
               ∙ ap₂ ◌+◌ (c.empty i l) (turn_empty turn i)
               ∙ sym (over_next (λ x. empty_turn x.answer.turn i) ms m);
-          row = row-then;
+          row = row_then;
           longest =
               λ i l.
               r.longest i l
-              ∙ ap₂ larger (rows-were (96 + i) (omega arith) ∙ c.longest i l) (row-then i l)
+              ∙ ap₂ larger (rows_were (96 + i) (omega arith) ∙ c.longest i l) (row_then i l)
               ∙ sym (longest_next (passed_over t i) ms m);
         }
 
@@ -415,39 +415,39 @@ module _ (t : Table) (ms : List TakenTick) (m : TakenTick) where
     abbrev gone : ℕ
     gone = one_if (eqb (how_of left) 2)
 
-    task-low : task_row < 64
-    task-low = task_below t.ntasks left few fits.task
+    task_low : task_row < 64
+    task_low = task_below t.ntasks left few fits.task
 
     task_room : 64 + task_row < length xs
-    task_room = omega (arith, task-low, c.long)
+    task_room = omega (arith, task_low, c.long)
 
-    discards-were : (k : ℕ) → get_or (left_counted (how_of left) task_row xs) (128 + k) 0 ≡ get_or xs (128 + k) 0
-    discards-were k = other_columns 64 task_row done gone xs task-low task_room (128 + k) (omega arith)
+    discards_were : (k : ℕ) → get_or (left_counted (how_of left) task_row xs) (128 + k) 0 ≡ get_or xs (128 + k) 0
+    discards_were k = other_columns 64 task_row done gone xs task_low task_room (128 + k) (omega arith)
 
-    tasks-next : TasksCounted t (ms ++ (m ∷ [])) ys
-    tasks-next =
+    tasks_next : TasksCounted t (ms ++ (m ∷ [])) ys
+    tasks_next =
         record {
-          long = r.long ∙ columns_length 64 task_row done gone xs task-low task_room ∙ c.long;
+          long = r.long ∙ columns_length 64 task_row done gone xs task_low task_room ∙ c.long;
           finished =
               λ k l.
               r.before k (omega arith)
-              ∙ first_column 64 task_row done gone xs task-low task_room k (omega arith)
+              ∙ first_column 64 task_row done gone xs task_low task_room k (omega arith)
               ∙ ap₂ ◌+◌ (c.finished k l) (left_finished left k)
               ∙ sym (over_next (λ x. finished_by x.answer.left k) ms m);
           cut =
               λ k l.
               r.before (64 + k) (omega arith)
-              ∙ second_column 64 task_row done gone xs task-low task_room k
+              ∙ second_column 64 task_row done gone xs task_low task_room k
               ∙ ap₂ ◌+◌ (c.cut k l) (left_cut left k)
               ∙ sym (over_next (λ x. cut_by x.answer.left k) ms m);
           discarded =
               λ k l.
               r.discarded k l
-              ∙ ap₂ ◌+◌ (discards-were k ∙ c.discarded k l) (seen k l).0
+              ∙ ap₂ ◌+◌ (discards_were k ∙ c.discarded k l) (seen k l).0
               ∙ sym (over_next (λ x. x.discarded k) ms m);
           small =
               λ k l.
-              omega (arith, r.discarded k l, discards-were k, c.small k l, (seen k l).1, length-append ms (m ∷ []));
+              omega (arith, r.discarded k l, discards_were k, c.small k l, (seen k l).1, length-append ms (m ∷ []));
         }
 
   modes_next : (xs : List ℕ) → ModesCounted ms xs →
@@ -458,7 +458,7 @@ module _ (t : Table) (ms : List TakenTick) (m : TakenTick) where
         long = length-set xs p (get_or xs p 0 + 1) ∙ c.long;
         ticks = λ x.
             added_cell xs p 1 (mode_value x) (eqb (mode_value x) p) (λ e. sym (eqb-true (mode_value x) p e))
-            (λ e q. eqb-false (mode_value x) p e (sym q)) (omega (arith, mode-below m.answer.mode, c.long))
+            (λ e q. eqb-false (mode_value x) p e (sym q)) (omega (arith, mode_below m.answer.mode, c.long))
             ∙ ap (λ n. n + in_this_mode x m.answer.mode) (c.ticks x)
             ∙ sym (over_next (λ y. in_this_mode x y.answer.mode) ms m);
       }
@@ -498,7 +498,7 @@ module _ {t : Table} {ms : List TakenTick} {m : TakenTick} {nservers ntasks : �
   mode_ready =
       let x = m.answer.mode in
       rw says.mode (
-        mode-below x,
+        mode_below x,
         few_counted (λ y. in_this_mode x y.answer.mode) (λ y. one_most (mode_value x) (mode_value y.answer.mode))
             (h.counted.modes.ticks x),
       )
@@ -584,23 +584,23 @@ module _ {t : Table} {ms : List TakenTick} {m : TakenTick} {nservers ntasks : �
   -- the arrays after each of them
   module _ {found' xs' ys' : List ℕ} (e : found' ≡ seen) (f : xs' ≡ turn_counted what server xs)
       (g : ys' ≡ left_counted how task ys) where
-    pub nothing-discarded : get_or told 8 0 ≤ 0 → DiscardsCounted ntasks found' ys' ys'
-    nothing-discarded z =
+    pub nothing_discarded : get_or told 8 0 ≤ 0 → DiscardsCounted ntasks found' ys' ys'
+    nothing_discarded z =
         discards_none ntasks found' ys'
         (λ k l.
         let b : k < t.ntasks = omega (arith, h.rows.1) in
         ap (λ (x : List ℕ). get_or x (32 + k) 0) e
         ∙ omega (arith, seen_task k b, sum_part m.discarded t.ntasks k b, h.fits.counted, says.discarded))
 
-    pub tick-counted : {xs'' ys'' : List ℕ} → ((k : ℕ) → get_or found' k 0 < 256) → RowsCounted nservers found' xs' xs'' →
+    pub tick_counted : {xs'' ys'' : List ℕ} → ((k : ℕ) → get_or found' k 0 < 256) → RowsCounted nservers found' xs' xs'' →
         DiscardsCounted ntasks found' ys' ys'' → Counted t (ms ++ (m ∷ [])) xs'' ys'' (added zs (get_or told 2 0) 1)
-    tick-counted bytes r d =
+    tick_counted bytes r d =
         record {
           servers =
-              servers-next t ms m (omega (arith, h.rows.0, h.few.0)) h.finds h.fits h.counted.servers
+              servers_next t ms m (omega (arith, h.rows.0, h.few.0)) h.finds h.fits h.counted.servers
               (rw (h.rows.0, e, f, says.what, says.server) at r);
           tasks =
-              tasks-next t ms m (omega (arith, h.rows.1, h.few.1)) h.fits
+              tasks_next t ms m (omega (arith, h.rows.1, h.few.1)) h.fits
               (λ k l. (ap (λ (x : List ℕ). get_or x (32 + k) 0) e ∙ seen_task k l, omega (arith, bytes (32 + k))))
               h.counted.tasks (rw (h.rows.1, g, says.how, says.task) at d);
           modes = rw says.mode (modes_next t ms m zs h.counted.modes);

@@ -124,12 +124,12 @@ task_put xs waiting i w f1 f2 f3 f4 f5 l =
     (after_put c (e ∷ g ∷ h ∷ []) f2.put
     (after_put e (g ∷ h ∷ []) f3.put (after_put g (h ∷ []) f4.put (after_put h [] f5.put l)))))
 
-pub mode-put : (word : List ℕ) (x : ℕ) {d : List ℕ} {at : ℕ} {e1 : List ℕ} {k1 : ℕ} {e2 : List ℕ} {k2 : ℕ}
+pub mode_put : (word : List ℕ) (x : ℕ) {d : List ℕ} {at : ℕ} {e1 : List ℕ} {k1 : ℕ} {e2 : List ℕ} {k2 : ℕ}
     {e3 : List ℕ} {k3 : ℕ} {e4 : List ℕ} {k4 : ℕ} {e5 : List ℕ} {k5 : ℕ} →
     length word ≤ 2 → Put (bytes "mode") d at e1 k1 →
     Put (tab ∷ []) e1 k1 e2 k2 → Put word e2 k2 e3 k3 → FieldPut x e3 k3 e4 k4 → Put (line_feed ∷ []) e4 k4 e5 k5 →
     LinesPut (printed (bytes "mode" ∷ word ∷ digits x ∷ []) ∷ []) d at e5 k5
-mode-put word x h w t p f l =
+mode_put word x h w t p f l =
     line_put (bytes "mode") (word ∷ digits x ∷ []) (omega arith, (omega arith, (f.short, tt))) (omega arith) w
     (after_put word (digits x ∷ []) (put_more (tab ∷ []) word t p) (after_put (digits x) [] f.put l))
 

@@ -8,7 +8,7 @@ use lib.ListN.{length, length-replicate}
 use lib.Seq.{length-take-le}
 use Rattle.report.specs.Pieces.{Stand, standing}
 use Rattle.report.proofs.Pieces.{Going, going_start, going_done}
-use Rattle.report.proofs.Pieces.{Batch, batch_eaten, batch_few, batch-handed, batch-next}
+use Rattle.report.proofs.Pieces.{Batch, batch_eaten, batch_few, batch_handed, batch_next}
 use borrow.Author.Rules.{rules}
 use Rattle.report.proofs.count_piece.Statement.{statement}
 use Rattle.report.proofs.count_piece.Tie as tie
@@ -116,7 +116,7 @@ slice_aggregate_count_ticks_2 c =
 count_ticks_requires : tie.Need-count-ticks-requires invariant_loop decreases_loop
 count_ticks_requires c κs =
     let f = ticks c in
-    batch-handed (cutting (cut f)) f.find-many.ensures
+    batch_handed (cutting (cut f)) f.find-many.ensures
 
 -- after a batch
 abbrev counted : tie.After-struct-known invariant_loop decreases_loop → tie.After-count-ticks invariant_loop decreases_loop
@@ -136,7 +136,7 @@ loop_again c =
     let n = counted c in
     let f = ticks n.before in
     let k = cut f in
-    batch-next (cutting k) f.find-many.ensures n.count-ticks.ensures k.cut-lines.kept.1.1.0
+    batch_next (cutting k) f.find-many.ensures n.count-ticks.ensures k.cut-lines.kept.1.1.0
     f.find-many.kept.1.1.0 (n.count-ticks.kept.1.1.1.1.0 ∙ f.find-many.kept.1.1.1.0)
 
 returns : tie.Need-returns invariant_loop decreases_loop

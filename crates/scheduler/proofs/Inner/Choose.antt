@@ -88,10 +88,10 @@ module _ (t : Table) (s : State) where
 
   -- Task k, of priority p, belongs to server o: it is above what was found of o, or not.
   module _ (k o p : ℕ) (height top : List ℕ) (e : o ≡ owner s.mode (task_at t k)) (f : p ≡ task_priority_at t k) where
-    pub tops-take : 32 ≤ length height → length top ≡ 32 → o < 32 →
+    pub tops_take : 32 ≤ length height → length top ≡ 32 → o < 32 →
         (ltb 0 (waiting_at s k) && ltb (get_or height o 0) p) ≡ true → Tops k height top →
         Tops (k + 1) (set height o p) (set top o k)
-    tops-take lh lt l h q i b = rw f (go (same_or_not i o))
+    tops_take lh lt l h q i b = rw f (go (same_or_not i o))
       where
         w : ltb 0 (waiting_at s k) ≡ true
         w = and_left (ltb 0 (waiting_at s k)) (ltb (get_or height o 0) p) h
@@ -112,9 +112,9 @@ module _ (t : Table) (s : State) where
             rw (get_or-set_other height o i (task_priority_at t k) 0 d, get_or-set_other top o i k 0 d)
             (top_skip (waits_for t s i) (task_priority_at t) k (get_or height i 0) (get_or top i 0) (q i b) (others i k o e d))
 
-    pub tops-leave : 1 ≤ task_priority_at t k → (ltb 0 (waiting_at s k) && ltb (get_or height o 0) p) ≡ false →
+    pub tops_leave : 1 ≤ task_priority_at t k → (ltb 0 (waiting_at s k) && ltb (get_or height o 0) p) ≡ false →
         Tops k height top → Tops (k + 1) height top
-    tops-leave g h q i b = go (same_or_not i o) (ltb 0 (waiting_at s k)) refl
+    tops_leave g h q i b = go (same_or_not i o) (ltb 0 (waiting_at s k)) refl
       where
         go : (i ≡ o) ⊎ (i ≡ o → ⊥) → (w : Bool) → ltb 0 (waiting_at s k) ≡ w →
             Top (k + 1) (waits_for t s i) (task_priority_at t) (get_or height i 0) (get_or top i 0)
@@ -179,17 +179,17 @@ module _ (t : Table) (s : State) where
   says_idle height row p e = rw (← p, e)
 
   module _ (height row : ℕ) (p : found_by height row ≡ highest_able t s) (d : height ≡ 0 → ⊥) where
-    found-row : highest_able t s ≡ At row
-    found-row = sym p ∙ found_there height row (omega arith)
+    found_row : highest_able t s ≡ At row
+    found_row = sym p ∙ found_there height row (omega arith)
 
-    pub says-turn : (h x : ℕ) → found_by h x ≡ highest_task t s row → turn_of row (found_by h x) ≡ choose t s
+    pub says_turn : (h x : ℕ) → found_by h x ≡ highest_task t s row → turn_of row (found_by h x) ≡ choose t s
     unfolding choose
-    says-turn h x q = rw found-row (ap (turn_of row) q)
+    says_turn h x q = rw found_row (ap (turn_of row) q)
 
     -- a row found is a row of the table
     pub row_there_lem : row < t.nservers
     unfolding highest_able
-    row_there_lem = (highest_at (able t s) (priority_at t) t.nservers row found-row).below
+    row_there_lem = (highest_at (able t s) (priority_at t) t.nservers row found_row).below
 
 pub owner_row : (t : Table) → TableRules t → (m : Mode) (k : ℕ) → k < t.ntasks → owner m (task_at t k) < t.nservers
 owner_row t r N k h = (r.task k h).home

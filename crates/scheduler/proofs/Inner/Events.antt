@@ -71,20 +71,20 @@ module _ (r : Run) (k : ℕ) (e : sound r ≡ true) where
   release_no_task h = rw (e, le-ltb k r.table.ntasks h)
 
   module _ (h : k < r.table.ntasks) where
-    pub release-low : (is_d2 r.state.mode && is_low (task_at r.table k).level) ≡ true →
+    pub release_low : (is_d2 r.state.mode && is_low (task_at r.table k).level) ≡ true →
         refused r LowInD2 ≡ release_of r k
     unfolding release_of
-    release-low l = rw (e, lt-ltb k r.table.ntasks h, l)
+    release_low l = rw (e, lt-ltb k r.table.ntasks h, l)
 
     module _ (l : (is_d2 r.state.mode && is_low (task_at r.table k).level) ≡ false) where
-      pub release-full : 16 ≤ waiting_at r.state k → refused r QueueFull ≡ release_of r k
+      pub release_full : 16 ≤ waiting_at r.state k → refused r QueueFull ≡ release_of r k
       unfolding release_of
-      release-full q = rw (e, lt-ltb k r.table.ntasks h, l, le-ltb (waiting_at r.state k) 16 q)
+      release_full q = rw (e, lt-ltb k r.table.ntasks h, l, le-ltb (waiting_at r.state k) 16 q)
 
       module _ (q : waiting_at r.state k < 16) where
-        pub release-spent : 4000000000 ≤ r.state.accepted → refused r CountSpent ≡ release_of r k
+        pub release_spent : 4000000000 ≤ r.state.accepted → refused r CountSpent ≡ release_of r k
         unfolding release_of
-        release-spent c =
+        release_spent c =
             rw (
               e,
               lt-ltb k r.table.ntasks h,

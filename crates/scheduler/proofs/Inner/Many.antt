@@ -199,9 +199,9 @@ module _ (r : Run) (vs told found : List ℕ) (e : sound r ≡ true) where
   find_short_told h = rw (e, lt-leb (9 * length (lines_said vs)) (length told) (omega (arith, lines_length vs)))
 
   module _ (h : length vs / 2 ≤ length told / 9) where
-    pub find-short-found : length found / 96 < length vs / 2 → unfound RoomShort r told found ≡ find_of r vs told found
+    pub find_short_found : length found / 96 < length vs / 2 → unfound RoomShort r told found ≡ find_of r vs told found
     unfolding find_of
-    find-short-found g =
+    find_short_found g =
         rw (
           e,
           le-leb (9 * length (lines_said vs)) (length told) (omega (arith, lines_length vs)),

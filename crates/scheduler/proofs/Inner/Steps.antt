@@ -183,9 +183,9 @@ module _ (h : Head) (before : Mode) (ks w c : List ℕ) where
       )
 
 -- Step 3.
-pub mode-is : (h : Head) (w : List ℕ) (m : Mode) → m ≡ (if any_below h.ntasks (waits_at w) then h.mode else N) → SettlesMode h w m
+pub mode_is : (h : Head) (w : List ℕ) (m : Mode) → m ≡ (if any_below h.ntasks (waits_at w) then h.mode else N) → SettlesMode h w m
 unfolding step3 some_waits
-mode-is h w m q t u e c n = rw (q, n) (go (any_below t.ntasks (waits_at w)))
+mode_is h w m q t u e c n = rw (q, n) (go (any_below t.ntasks (waits_at w)))
   where
     go : (b : Bool) →
         (if b then state_of h u e w c else with_mode (state_of h u e w c) N)
@@ -200,8 +200,8 @@ in_n N e false = refl
 in_n D1 e b = cc
 in_n D2 e b = cc
 
-pub mode-in-n : (h : Head) (w : List ℕ) → is_n h.mode ≡ true → SettlesMode h w h.mode
-mode-in-n h w e = mode-is h w h.mode (in_n h.mode e (any_below h.ntasks (waits_at w)))
+pub mode_in_n : (h : Head) (w : List ℕ) → is_n h.mode ≡ true → SettlesMode h w h.mode
+mode_in_n h w e = mode_is h w h.mode (in_n h.mode e (any_below h.ntasks (waits_at w)))
 
 -- Step 4: a row is refilled exactly if its elapsed count, as it was, equals its period.
 abbrev pub refilled : List ℕ → List ℕ → ℕ → ℕ → ℕ

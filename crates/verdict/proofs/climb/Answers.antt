@@ -4,7 +4,7 @@
 use native.Mathlib.Omega.{arith}
 use Rattle.laws.proofs.Climb.{climb_start}
 use Rattle.verdict.specs.Inner.{meets_in}
-use Rattle.verdict.proofs.Columns.{in-le}
+use Rattle.verdict.proofs.Columns.{in_le}
 use Rattle.verdict.proofs.Least.{next_tried, found_least, found_none}
 use Rattle.verdict.proofs.climb.Goals as goal
 
@@ -30,7 +30,7 @@ overflow_add-next c =
             c.requires.0.few,
             c.requires.1,
             c.requires.2,
-            in-le a.periods.now a.capacities.now a.late.now a.count c.requires.0
+            in_le a.periods.now a.capacities.now a.late.now a.count c.requires.0
                 c.loop-r.r a.count
                 (omega (arith, c.requires.2, c.loop-r-test.true))
                 (omega arith),

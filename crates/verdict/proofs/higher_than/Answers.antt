@@ -6,7 +6,7 @@ use native.Mathlib.Omega.{arith}
 use Rattle.units.specs.declared.Ticks.{Ticks}
 use Rattle.table.specs.Inner.{Sized}
 use Rattle.table.proofs.Rules.{ServerRules, table_rules, few_servers}
-use Rattle.verdict.proofs.Delays.{none_passed, lower-passed, idle-passed, higher-passed, all-passed}
+use Rattle.verdict.proofs.Delays.{none_passed, lower_passed, idle_passed, higher_passed, all_passed}
 use Rattle.verdict.proofs.higher_than.Goals as goal
 use Rattle.verdict.proofs.higher_than.Goals.{In-loop-i, then-s-priority-via-then-s-priority, then-s-priority-via-else-s-priority+then-capacity-eq0}
 
@@ -45,9 +45,9 @@ loop-i-preserved-then-s-priority c =
       omega arith,
       elim c.then-s-priority.branch [
         | then-s-priority-via-then-s-priority w ↦
-            lower-passed a.t a.m a.row l.periods l.capacities l.late l.i l.count l.invariant.1 w.if-s-priority.true
+            lower_passed a.t a.m a.row l.periods l.capacities l.late l.i l.count l.invariant.1 w.if-s-priority.true
         | then-s-priority-via-else-s-priority+then-capacity-eq0 w ↦
-            idle-passed a.t a.m a.row l.periods l.capacities l.late l.i l.count l.invariant.1
+            idle_passed a.t a.m a.row l.periods l.capacities l.late l.i l.count l.invariant.1
             c.in_mode-capacity.result.0
             (ap (λ (x : Ticks). x.0) c.in_mode-capacity.ensures)
             w.if-capacity-eq0.true
@@ -88,7 +88,7 @@ loop-i-preserved c =
     let l = c.loop-i in
     let a = c.args in (
       omega arith,
-      higher-passed a.t a.m a.row l.periods l.capacities l.late l.i l.count l.invariant.1
+      higher_passed a.t a.m a.row l.periods l.capacities l.late l.i l.count l.invariant.1
           c.in_mode-capacity.result.0 c.late_of.result
           (omega (arith, few_servers a.t c.requires.0, c.loop-i-test.true))
           (row_rules (goal.at.loop-i-preserved c).In-loop-i)
@@ -102,5 +102,5 @@ returns c =
     let l = c.loop-i in
     let a = c.args in
     let e : l.i ≡ a.t.nservers = omega arith in
-    all-passed a.t a.m a.row l.periods l.capacities l.late l.i l.count l.invariant.1 e
+    all_passed a.t a.m a.row l.periods l.capacities l.late l.i l.count l.invariant.1 e
     (omega (arith, few_servers a.t c.requires.0))

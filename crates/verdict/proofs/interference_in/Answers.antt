@@ -6,7 +6,7 @@ use Prim.Native.Nat.{◌+◌, ◌*◌, ◌≤◌}
 use native.Mathlib.Omega.{arith}
 use lib.ListN.{get_or}
 use Rattle.verdict.specs.Inner.{interference_in, Bounded}
-use Rattle.verdict.proofs.Columns.{in_none, in_next, in-le}
+use Rattle.verdict.proofs.Columns.{in_none, in_next, in_le}
 use Rattle.verdict.proofs.interference_in.Goals as goal
 use Rattle.verdict.proofs.interference_in.Goals.{After-round_up, In-loop-i, Start}
 
@@ -73,7 +73,7 @@ small c =
       arith,
       next c,
       c.requires.0.few,
-      in-le a.periods.now a.capacities.now a.late.now a.count c.requires.0 a.r (i + 1) c.requires.1
+      in_le a.periods.now a.capacities.now a.late.now a.count c.requires.0 a.r (i + 1) c.requires.1
           (omega arith),
     )
 

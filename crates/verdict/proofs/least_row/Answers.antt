@@ -7,7 +7,7 @@ use borrow.Author.Count.{below_more}
 use Rattle.laws.specs.declared.Found.{Found}
 use Rattle.verdict.specs.Verdict.{told}
 use Rattle.verdict.specs.Fits.{is_miss}
-use Rattle.verdict.proofs.Fitting.{misses, row_told, row-misses, no-row-misses}
+use Rattle.verdict.proofs.Fitting.{misses, row_told, row_misses, no_row_misses}
 use Rattle.verdict.proofs.least_row.Goals as goal
 use Rattle.verdict.proofs.least_row.Goals.{After-response-f}
 
@@ -23,7 +23,7 @@ loop-row-init c = (omega arith, λ k h. absurd (omega arith))
 
 pub returns-in-Nothing : goal.returns-in-Nothing
 returns-in-Nothing c =
-    row-misses c.args.t c.args.m c.requires c.loop-row.row c.loop-row-test.true
+    row_misses c.args.t c.args.m c.requires c.loop-row.row c.loop-row-test.true
     (at_hand (goal.at.returns-in-Nothing c).After-response-f _ c.in-Nothing.is) c.loop-row.invariant.1
 
 pub loop-row-preserved : goal.loop-row-preserved
@@ -38,4 +38,4 @@ pub returns : goal.returns
 returns c =
     let l = c.loop-row in
     let e : l.row ≡ c.args.t.nservers = omega arith in
-    no-row-misses c.args.t c.args.m c.requires (rw e at l.invariant.1)
+    no_row_misses c.args.t c.args.m c.requires (rw e at l.invariant.1)

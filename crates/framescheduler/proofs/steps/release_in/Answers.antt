@@ -5,7 +5,7 @@ use native.Mathlib.Omega.{arith}
 use Rattle.queues.proofs.Inner.{waiting_joined}
 use Rattle.framerun.specs.declared.FrameRun.{FrameRun}
 use Rattle.framescheduler.specs.Inner.{run_of}
-use Rattle.framescheduler.proofs.Inner.{run_rules, release_absent, release-full, release-spent, release_taken_lem}
+use Rattle.framescheduler.proofs.Inner.{run_rules, release_absent, release_full, release_spent, release_taken_lem}
 use Rattle.framescheduler.proofs.steps.release_in.Goals as goal
 use Rattle.framescheduler.proofs.steps.release_in.Goals.{Else-t-task, Start}
 
@@ -21,11 +21,11 @@ returns-then-t-task c = release_absent (whole (goal.at.returns-then-t-task c).St
 
 pub returns-then-waiting-task-ge-QUEUE : goal.returns-then-waiting-task-ge-QUEUE
 returns-then-waiting-task-ge-QUEUE c =
-    release-full (whole (goal.at.returns-then-waiting-task-ge-QUEUE c).Start) c.args.task c.requires.sound c.if-t-task.false c.if-waiting-task-ge-QUEUE.true
+    release_full (whole (goal.at.returns-then-waiting-task-ge-QUEUE c).Start) c.args.task c.requires.sound c.if-t-task.false c.if-waiting-task-ge-QUEUE.true
 
 pub returns-then-h-ge-MOST : goal.returns-then-h-ge-MOST
 returns-then-h-ge-MOST c =
-    release-spent (whole (goal.at.returns-then-h-ge-MOST c).Start) c.args.task c.requires.sound c.if-t-task.false c.if-waiting-task-ge-QUEUE.false c.if-h-ge-MOST.true
+    release_spent (whole (goal.at.returns-then-h-ge-MOST c).Start) c.args.task c.requires.sound c.if-t-task.false c.if-waiting-task-ge-QUEUE.false c.if-h-ge-MOST.true
 
 pub returns : goal.returns
 returns c =

@@ -11,7 +11,7 @@ use Rattle.decimal.proofs.Inner.Fields.{line_found}
 use Rattle.laws.specs.declared.Found.{Found}
 use Rattle.reader.specs.declared.fields.Fields.{Fields}
 use Rattle.reader.specs.Inner.Fields.{expected_of, line_end, counted, telling, passed}
-use Rattle.reader.proofs.Inner.Fields.{noted_by, pass-next, pass-last, pass_over, line-next, line-last, next-within}
+use Rattle.reader.proofs.Inner.Fields.{noted_by, pass_next, pass_last, pass_over, line_next, line_last, next_within}
 use Rattle.reader.proofs.fields.read_fields.Goals as goal
 
 pub loop-k-init : goal.loop-k-init
@@ -30,13 +30,13 @@ returns-then-not-f c =
     let b = before l.wrong l.values l.k a.text.now a.from in
     let with_it = noted_by b l.k f.result.number
     c.first_wrong-wrong.result c.value_in.result c.first_wrong-wrong.ensures c.value_in.ensures in
-    let ends = line-last a.least a.text.now a.shape.now l.k l.at b f.result
+    let ends = line_last a.least a.text.now a.shape.now l.k l.at b f.result
     (omega arith) f.ensures none in
     rw (c.count-told.ensures, sym (l.invariant.3 ∙ ends))
     (ap (λ (x : Fields). telling (counted a.least (l.k + 1) x.wrong) x) with_it
     ∙ sym
     (l.invariant.2
-    ∙ pass-last a.least a.text.now a.shape.now l.k l.at b f.result (omega arith) f.ensures none))
+    ∙ pass_last a.least a.text.now a.shape.now l.k l.at b f.result (omega arith) f.ensures none))
 
 -- a field is followed by another within the text
 pub overflow_add-at : goal.overflow_add-at
@@ -44,7 +44,7 @@ overflow_add-at c =
     let f = c.read_field-f in
     let l = c.loop-k in
     let a = c.args in
-    let onward = next-within a.least a.text.now a.shape.now l.k l.at
+    let onward = next_within a.least a.text.now a.shape.now l.k l.at
     (before l.wrong l.values l.k a.text.now a.from) f.result (omega arith) f.ensures (not-false _ c.if-not-f.false) in
     record { fits = omega (arith, onward) }
 
@@ -57,17 +57,17 @@ loop-k-preserved c =
     let b = before l.wrong l.values l.k a.text.now a.from in
     let with_it = noted_by b l.k f.result.number
     c.first_wrong-wrong.result c.value_in.result c.first_wrong-wrong.ensures c.value_in.ensures in
-    let onward = next-within a.least a.text.now a.shape.now l.k l.at b f.result (omega arith) f.ensures more in (
+    let onward = next_within a.least a.text.now a.shape.now l.k l.at b f.result (omega arith) f.ensures more in (
       omega arith,
       omega (arith, onward),
       l.invariant.2
-          ∙ pass-next a.least a.text.now a.shape.now l.k l.at b f.result (omega arith) f.ensures more
+          ∙ pass_next a.least a.text.now a.shape.now l.k l.at b f.result (omega arith) f.ensures more
           ∙ ap
           (λ x. passed a.least (map expected_of (drop (l.k + 1) a.shape.now)) (l.k + 1) x
           (fields_from a.text.now (f.result.end.at + 1)))
           (sym with_it),
       l.invariant.3
-          ∙ line-next a.least a.text.now a.shape.now l.k l.at b f.result (omega arith) f.ensures more,
+          ∙ line_next a.least a.text.now a.shape.now l.k l.at b f.result (omega arith) f.ensures more,
     )
 
 pub returns : goal.returns

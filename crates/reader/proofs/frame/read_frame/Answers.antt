@@ -20,7 +20,7 @@ use Rattle.frametable.specs.Text.{frame_standing, frame_grown, frame_text, frame
 use Rattle.reader.specs.Inner.Frame.{FrameAbove}
 use Rattle.reader.proofs.FrameText.{frame_line_lent, frame_table_rows, frame_standing_by_lem, frame_starts, frame_starts_from}
 use Rattle.reader.proofs.FrameText.{FrameTaskGrows, frame_task_grows, frame_above_next, frame_put_tick, frame_put_task, frame_put_none}
-use Rattle.reader.proofs.TableText.{from-unclosed, from_end, from-broken, from_kept}
+use Rattle.reader.proofs.TableText.{from_unclosed, from_end, from_broken, from_kept}
 use Rattle.reader.proofs.frame.read_frame.Goals as goal
 use Rattle.reader.proofs.frame.read_frame.Goals.{in-OfTick, in-OfTask, in-Malformed}
 
@@ -75,7 +75,7 @@ returns-then-e-text c =
     let said = frame_line_lent s l.at c.read_line-r.result c.read_line-r.ensures in
     c.refuse-then-e-text.ensures
     ∙ ap frame_shown
-    (from-unclosed frame_text l.n (frame_rows_of l.t) s l.at (l.at + c.read_line-r.result.end) (ap (λ x. l.at + x) said.1)
+    (from_unclosed frame_text l.n (frame_rows_of l.t) s l.at (l.at + c.read_line-r.result.end) (ap (λ x. l.at + x) said.1)
     (omega (arith, c.if-e-text.true)) (lt_of_le-ne l.invariant.0 c.if-at-text.false)
     ∙ sym l.invariant.3
     ∙ text_short frame_text s c.if-text-gt-LONGEST_TEXT.false)
@@ -93,7 +93,7 @@ returns-in-Broken c =
     let ends = within s l.at _ said.1 l.invariant.0 in
     c.refuse-in-Broken.ensures
     ∙ ap frame_shown
-    (from-broken frame_text l.n (frame_rows_of l.t) s l.at (l.at + c.read_line-r.result.end) (ap (λ x. l.at + x) said.1)
+    (from_broken frame_text l.n (frame_rows_of l.t) s l.at (l.at + c.read_line-r.result.end) (ap (λ x. l.at + x) said.1)
     x c.in-Broken.why c.in-Broken.field (lt_of_le-ne ends c.if-e-text.false) said.0
     (sym (c.line_standing-standing.ensures ∙ frame_standing_by_lem l.t l.invariant.2.whole l.n _) ∙ c.in-Broken.is)
     ∙ sym l.invariant.3

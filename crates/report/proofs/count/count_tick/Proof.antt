@@ -3,7 +3,7 @@
 use native.Mathlib.Omega.{arith}
 use borrow.Author.Rules.{rules}
 use Rattle.report.proofs.Inner.Count.{told_has, mode_ready, turn_ready, rows_ready, left_ready, discards_ready}
-use Rattle.report.proofs.Inner.Count.{nothing-discarded, tick-counted}
+use Rattle.report.proofs.Inner.Count.{nothing_discarded, tick_counted}
 use Rattle.report.proofs.count.count_tick.Statement.{statement}
 use Rattle.report.proofs.count.count_tick.Tie as tie
 
@@ -64,7 +64,7 @@ returns c =
     let l = c.before.before.before.before.before in
     let r = rowed l in
     let e = (turned r).count_turn.ensures in
-    tick-counted h e.0 e.1 l.count_left.ensures
+    tick_counted h e.0 e.1 l.count_left.ensures
     (λ k. omega (arith, r.before.before.before.slice-known2.given k)) r.count-rows.ensures
     c.count-discards.ensures
 
@@ -74,9 +74,9 @@ returns_2 c =
     let l = c.before.before in
     let r = rowed l in
     let e = (turned r).count_turn.ensures in
-    tick-counted h e.0 e.1 l.count_left.ensures
+    tick_counted h e.0 e.1 l.count_left.ensures
     (λ k. omega (arith, r.before.before.before.slice-known2.given k)) r.count-rows.ensures
-    (nothing-discarded h e.0 e.1 l.count_left.ensures c.if1.false)
+    (nothing_discarded h e.0 e.1 l.count_left.ensures c.if1.false)
 
 pub count_tick_spec : {M : Type 1} → statement M
 count_tick_spec =

@@ -1,5 +1,5 @@
 -- `report::page::put_mode` meets its contract: the line field by field. Assumes nothing.
-use Rattle.report.proofs.Inner.Page.{mode-put}
+use Rattle.report.proofs.Inner.Page.{mode_put}
 use borrow.Author.Rules.{rules}
 use Rattle.report.proofs.page.put_mode.Statement.{statement}
 use Rattle.report.proofs.page.put_mode.Tie as tie
@@ -12,7 +12,7 @@ returns c =
     let t = p.before.before.before.before in
     let w = t.before.before.before.before in
     let s = w.before.before.before.before.before in
-    mode-put s.args.word.now s.args.x s.requires w.put_all_lem.ensures t.put_byte.ensures
+    mode_put s.args.word.now s.args.x s.requires w.put_all_lem.ensures t.put_byte.ensures
     p.put-all2.ensures f.put-field.ensures l.put-byte2.ensures
 
 pub put_mode_spec : {M : Type 1} → statement M

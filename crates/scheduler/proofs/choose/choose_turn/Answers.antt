@@ -16,7 +16,7 @@ use Rattle.laws.specs.Rows.{found_by}
 use Rattle.scheduler.specs.Inner.Choose.{with_tops}
 use Rattle.scheduler.specs.Inner.Steps.{Shows}
 use Rattle.scheduler.proofs.Inner.Columns.{owner_on, task_priority_on}
-use Rattle.scheduler.proofs.Inner.Choose.{waits_found, says_idle, says-turn, row_there_lem, owner_row}
+use Rattle.scheduler.proofs.Inner.Choose.{waits_found, says_idle, says_turn, row_there_lem, owner_row}
 use Rattle.scheduler.proofs.choose.choose_turn.Goals as goal
 use Rattle.scheduler.proofs.choose.choose_turn.Goals.{After-find_able-best}
 
@@ -106,7 +106,7 @@ returns c =
     let i = c.find_able-best.result.row in
     let q = tops_found b t e x p in (
       c.turn_of.ensures
-          ∙ says-turn t (seen b t e x p) _ _ (able_row b t e x p) c.if-best-eq0.false (get_or (height b t e x p) i 0)
+          ∙ says_turn t (seen b t e x p) _ _ (able_row b t e x p) c.if-best-eq0.false (get_or (height b t e x p) i 0)
           (get_or (top b t e x p) i 0) (q.1 i (row_low b c.if-best-eq0.false)),
       q.0,
     )

@@ -7,7 +7,7 @@ use lib.ListN.{length, get_or, drop, length-set}
 use lib.Seq.{drop-set-lt}
 use Rattle.scheduler.specs.Inner.Parts.{state_of}
 use Rattle.scheduler.proofs.Inner.Columns.{owner_on, task_priority_on}
-use Rattle.scheduler.proofs.Inner.Choose.{places_there, tops_none, tops-take, tops-leave}
+use Rattle.scheduler.proofs.Inner.Choose.{places_there, tops_none, tops_take, tops_leave}
 use Rattle.scheduler.proofs.Inner.Choose.{tops_found, tops_noted}
 use Rattle.scheduler.proofs.choose.find_tops.Goals as goal
 use Rattle.scheduler.proofs.choose.find_tops.Goals.{After-task_cell-o, then-is_higher, else-is_higher}
@@ -49,7 +49,7 @@ loop-k-preserved c =
         λ t h u e x q on n g i b.
             let k : l.k < t.ntasks = omega (arith, c.loop-k-test.true, n) in
             rw (v.found-is, v.top-is, v.height_of.ensures)
-            (tops-take t (state_of h u e w x) l.k row high l.found l.top
+            (tops_take t (state_of h u e w x) l.k row high l.found l.top
             (c.task_cell-o.ensures ∙ ap (λ y. get_or a.tasks.now (y + l.k) 0) q ∙ owner_on t a.tasks.now on l.k k h.mode)
             (c.task_cell-priority.ensures ∙ task_priority_on t a.tasks.now on l.k k) l.invariant.1 l.invariant.2 (owner_low (goal.at.loop-k-preserved c).After-task_cell-o)
             (sym c.is_higher.ensures ∙ v.if-is_higher.true) (l.invariant.4 t h u e x q on n g) i b),
@@ -62,7 +62,7 @@ loop-k-preserved c =
         λ t h u e x q on n g i b.
             let k : l.k < t.ntasks = omega (arith, c.loop-k-test.true, n) in
             rw (v.found-is, v.top-is)
-            (tops-leave t (state_of h u e w x) l.k row high l.found l.top
+            (tops_leave t (state_of h u e w x) l.k row high l.found l.top
             (c.task_cell-o.ensures ∙ ap (λ y. get_or a.tasks.now (y + l.k) 0) q ∙ owner_on t a.tasks.now on l.k k h.mode)
             (c.task_cell-priority.ensures ∙ task_priority_on t a.tasks.now on l.k k) (g l.k k)
             (sym c.is_higher.ensures ∙ v.if-is_higher.false) (l.invariant.4 t h u e x q on n g) i b),

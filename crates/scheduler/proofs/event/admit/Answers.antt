@@ -9,7 +9,7 @@ use Rattle.table.specs.declared.Table.{Table}
 use Rattle.queues.proofs.Inner.{waiting_joined}
 use Rattle.run.specs.declared.Run.{Run}
 use Rattle.scheduler.specs.Inner.Parts.{run_of}
-use Rattle.scheduler.proofs.Inner.Events.{release-low, release-full, release-spent, release_taken_lem}
+use Rattle.scheduler.proofs.Inner.Events.{release_low, release_full, release_spent, release_taken_lem}
 use Rattle.scheduler.proofs.event.admit.Goals as goal
 use Rattle.scheduler.proofs.event.admit.Goals.{Else-low_in_d2, Start}
 
@@ -27,7 +27,7 @@ returns-then-low_in_d2 c =
     record {
       counts = n;
       says =
-          release-low (whole (goal.at.returns-then-low_in_d2 c).Start t u e x) c.args.task g there
+          release_low (whole (goal.at.returns-then-low_in_d2 c).Start t u e x) c.args.task g there
           (rw q (sym c.low_in_d2.ensures ∙ c.if-low_in_d2.true));
     }
 
@@ -36,7 +36,7 @@ returns-then-waiting-task-ge-QUEUE c =
     λ t u e x n g there q.
     record {
       counts = n;
-      says = release-full (whole (goal.at.returns-then-waiting-task-ge-QUEUE c).Start t u e x) c.args.task g there (level_taken_lem (goal.at.returns-then-waiting-task-ge-QUEUE c).Else-low_in_d2 t q) c.if-waiting-task-ge-QUEUE.true;
+      says = release_full (whole (goal.at.returns-then-waiting-task-ge-QUEUE c).Start t u e x) c.args.task g there (level_taken_lem (goal.at.returns-then-waiting-task-ge-QUEUE c).Else-low_in_d2 t q) c.if-waiting-task-ge-QUEUE.true;
     }
 
 pub returns-then-h-ge-MOST : goal.returns-then-h-ge-MOST
@@ -44,7 +44,7 @@ returns-then-h-ge-MOST c =
     λ t u e x n g there q.
     record {
       counts = n;
-      says = release-spent (whole (goal.at.returns-then-h-ge-MOST c).Start t u e x) c.args.task g there (level_taken_lem (goal.at.returns-then-h-ge-MOST c).Else-low_in_d2 t q) c.if-waiting-task-ge-QUEUE.false c.if-h-ge-MOST.true;
+      says = release_spent (whole (goal.at.returns-then-h-ge-MOST c).Start t u e x) c.args.task g there (level_taken_lem (goal.at.returns-then-h-ge-MOST c).Else-low_in_d2 t q) c.if-waiting-task-ge-QUEUE.false c.if-h-ge-MOST.true;
     }
 
 pub returns : goal.returns

@@ -8,7 +8,7 @@ use Rattle.run.proofs.Shape.{Shaped}
 use Rattle.scheduler.specs.Inner.Events.{SoundRun}
 use Rattle.scheduler.proofs.Inner.Parts.{parts_are}
 use Rattle.scheduler.proofs.Inner.Events.{sound_run}
-use Rattle.scheduler.proofs.Inner.Many.{find_unsound, find_short_told, find-short-found, find_taken}
+use Rattle.scheduler.proofs.Inner.Many.{find_unsound, find_short_told, find_short_found, find_taken}
 use Rattle.scheduler.proofs.many.find_many.Goals as goal
 use Rattle.scheduler.proofs.many.find_many.Goals.{After-task_sheet-tasks}
 
@@ -39,7 +39,7 @@ returns-then-told-lines c =
 pub returns-then-found-lines : goal.returns-then-found-lines
 returns-then-found-lines c =
     let a = c.args in
-    find-short-found a.r a.lines.now a.told.now a.found.now (sym c.run_sound.ensures ∙ c.if-not-run_sound.false) c.if-told-lines.false
+    find_short_found a.r a.lines.now a.told.now a.found.now (sym c.run_sound.ensures ∙ c.if-not-run_sound.false) c.if-told-lines.false
     c.if-found-lines.true
 
 pub find_lines-d-requires : goal.find_lines-d-requires
