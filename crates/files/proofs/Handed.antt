@@ -1,14 +1,12 @@
 -- A table that is given as taken keeps the rules, whatever the reads answered. Assumes nothing.
 use mathlib.Core.Path.{◌≡◌, refl, sym, ap, ◌∙◌}
-use mathlib.Core.Bool.{Bool, true, false}
-use mathlib.Core.List.{List}
-use Prim.Native.Nat.{ℕ}
+use mathlib.Core.Bool.{true}
 use Rattle.laws.proofs.Choice.{clash}
 use Rattle.table.specs.declared.Table.{Table}
 use Rattle.table.specs.Rows.{no_table}
 use Rattle.table.specs.Rules.{table_keeps}
 use Rattle.text.specs.declared.Reading.{Reading}
-use Rattle.text.specs.declared.Reading.TheVariants.{Taken, Refused, Equal}
+use Rattle.text.specs.declared.Reading.TheVariants.{Taken, Equal}
 use Rattle.text.specs.Read.{read, shown}
 use Rattle.text.proofs.RoundTrip.{read_keeps}
 use Rattle.files.specs.declared.How.{How}

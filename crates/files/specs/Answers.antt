@@ -1,8 +1,11 @@
 -- What the contracts of this crate say of a program's words, of reading and of writing. What the
 -- operating system answers is not known, so each says what is made of it, whatever it is. Assumes
 -- nothing.
-use Rattle.std.specs.Prelude.{ℕ, zero, suc, ◌≤◌, ◌<◌, ◌≡◌, Bool, false, ◌&&◌, List, eqb, ℤ, pos, negsuc, if◌then◌else◌}
-use Rattle.io.specs.Counts.{clamp_len}
+use Rattle.std.specs.Prelude.{ℕ, zero, suc, ◌≤◌, ◌<◌, ◌≡◌, Bool, false, ◌&&◌, List, eqb, length, take, Result, Ok, Err, IfOk}
+use Rattle.std.specs.IoError.{error_kind}
+use Rattle.std.specs.declared.io.Error.{Error}
+use Rattle.std.specs.declared.io.ErrorKind.{ErrorKind}
+use Rattle.std.specs.declared.io.ErrorKind.TheVariants.{Interrupted}
 use Rattle.laws.specs.Quoted.{bytes}
 use Rattle.decimal.specs.Lines.{same}
 use Rattle.files.specs.declared.Taken.{Taken}
@@ -25,29 +28,34 @@ pub record Called (words : ℕ) (r : Bool) : Type 0 where
   pub told : ℕ
   pub compared : r ≡ eqb told words
 
--- A descriptor, which is not below 0, or -1.
-abbrev pub Descriptor : ℤ → Type 0
-Descriptor (pos n) = 0 ≤ n
-Descriptor (negsuc n) = n ≡ 0
+-- so many bytes can be cut from the front, and are so many
+abbrev pub IsPrefixLen : ℕ → List ℕ → Type 0
+IsPrefixLen n xs = (n ≤ length xs) × (n ≡ length (take n xs))
 
--- how a call ended that failed with this error: EINTR, 4, says that it was interrupted and is to be
--- tried again
-abbrev pub failed_how : ℤ → How
-failed_how (pos n) = if eqb n 4 then On else Failed
-failed_how (negsuc n) = Failed
+-- how a call ended that failed with an error of this kind: one that was interrupted is to be tried
+-- again
+abbrev pub failed_how : ErrorKind → How
+failed_how Interrupted = On
+failed_how _ = Failed
 
 -- how a call that moves bytes ended, by what it answered: how many, none where there is no more, or
 -- that it failed
-abbrev pub how_of : ℤ → ℤ → How
-how_of (pos zero) error = End
-how_of (pos (suc n)) error = On
-how_of (negsuc n) error = failed_how error
+abbrev pub how_of : Result ℕ Error → How
+how_of (Ok zero) = End
+how_of (Ok (suc n)) = On
+how_of (Err error) = failed_how (error_kind error)
 
--- The system, asked to fill `room` bytes, answered `got`, with this error where that is below 0.
+-- how many bytes it moved
+abbrev pub moved : Result ℕ Error → ℕ
+moved (Ok n) = n
+moved (Err error) = 0
+
+-- The system, asked to fill `room` bytes, answered `got`: how many, and no more than these, or an
+-- error.
 pub record Told (room : ℕ) (r : Taken) : Type 0 where
-  pub got : ℤ
-  pub error : ℤ
-  pub compared : r ≡ record { len = clamp_len got room; how = how_of got error }
+  pub got : Result ℕ Error
+  pub within : IfOk got (λ n. n ≤ room)
+  pub compared : r ≡ record { len = moved got; how = how_of got }
 
 -- Of `many` bytes the system said that it took so many; the answer is whether these are all.
 pub record Out (many : ℕ) (r : Bool) : Type 0 where

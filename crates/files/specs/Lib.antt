@@ -1,3 +1,4 @@
 pub mod Answers
 pub mod Handed
+pub mod Sources
 pub mod Turns

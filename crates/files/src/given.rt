@@ -1,11 +1,14 @@
 // The table that a program is given: read, or answered as refused. What does not speak of the table's
 // rows serves every kind of table.
 
-ghost use Rattle.std.specs.Prelude.{◌≡◌};
+ghost use Rattle.std.specs.Prelude.{◌≡◌, length};
+ghost use Rattle.lines.specs.AnswerLine.{closed_line, refused_fields};
+ghost use Rattle.files.specs.Answers.{Out};
 ghost use Rattle.files.specs.Handed.{is_failed, is_refused, given_of, Handed};
 
 use crate::How;
 use lines::LONGEST_ANSWER;
+use std::io::Read;
 use table::Table;
 use text::{LONGEST_TEXT, Reading};
 
@@ -56,7 +59,8 @@ fn given_of(how: How, text: &[u8]) -> Given
     }
 }
 
-fn is_refused(a: Reading) -> bool
+// Whether a table is refused.
+pub fn is_refused(a: Reading) -> bool
     ensures { result ≡ is_refused a }
 {
     match a {
@@ -66,31 +70,22 @@ fn is_refused(a: Reading) -> bool
     }
 }
 
-// Whether a table is refused; "A refused table prints only" its one line.
-pub fn say_refused(a: Reading) -> bool
-    ensures { result ≡ is_refused a }
+// "A refused table prints only" its one line: whether all of it was written.
+pub fn say_refused<R: Print + Eprint>(rt: &R, a: Reading) -> bool
+    ensures { Out (length (closed_line (refused_fields a))) result }
 {
-    let refused = is_refused(a);
-    if refused {
-        let mut line = [0u8; LONGEST_ANSWER];
-        let n = printer::put_refused(a, &mut line, 0);
-        crate::write_first(&line, n);
-    }
-    refused
+    let mut line = [0u8; LONGEST_ANSWER];
+    let n = printer::put_refused(a, &mut line, 0);
+    crate::write_first(rt, &line, n)
 }
 
-// The table in an open file; where it is refused, that is answered.
-pub fn take_table(fd: i32) -> Given
+// The table in an open file.
+pub fn take_table<R: Eprint, S: Read>(rt: &R, source: &mut S) -> Given
     ensures { Handed result }
 {
     let mut buf = [0u8; ROOM];
-    let got = crate::take_whole(fd, &mut buf);
+    let got = crate::take_whole(rt, source, &mut buf);
     let n = got.len;
     let how = got.how;
-    let given = given_of(how, &buf[..n]);
-    let case = given.case;
-    if let Case::Read(answer) = case {
-        say_refused(answer);
-    }
-    given
+    given_of(how, &buf[..n])
 }

@@ -7,18 +7,26 @@
 
 pub mod given;
 pub mod pieces;
+pub mod source;
 
 ghost use Rattle.std.specs.Prelude.{◌≡◌, length};
-ghost use Rattle.io.specs.Counts.{IsPrefixLen};
-ghost use Rattle.files.specs.Answers.{help_asked, Asked, Called, Descriptor};
+ghost use Rattle.files.specs.Answers.{help_asked, Asked, Called, IsPrefixLen};
 ghost use Rattle.files.specs.Answers.{how_of, Told, Out, First};
 
 use decimal::is_same;
-use libc::{STDERR_FILENO, STDIN_FILENO, STDOUT_FILENO};
+use source::Source;
+use std::env::FillError;
+use std::io::{ErrorKind, Input, Read};
+use std::process::ExitCode;
+use std::rt::{Env, Files};
+use std::{io, str};
 
-// A proved loop has to end, and nothing says that a file does: turns are counted down from a number
-// that no file uses up.
+// A proved loop has to end, and nothing says that a file does: turns are counted up to a number that
+// no file uses up.
 pub const TURNS: u64 = u64::MAX;
+
+// No path of the system is longer.
+const LONGEST_WORD: usize = 4096;
 
 // How a read or a write ended: it may go on, also where it was interrupted before it moved a byte;
 // there is no more; or it failed.
@@ -36,7 +44,19 @@ pub struct Taken {
     pub how: How,
 }
 
+// How many words the program was called with, its name among them.
+fn word_count<R: Env>(rt: &R) -> usize {
+    let mut word = [0u8; LONGEST_WORD];
+    for i in 0..usize::MAX {
+        if let Err(FillError::NotPresent) = rt.arg(i, &mut word) {
+            return i;
+        }
+    }
+    usize::MAX
+}
+
 // Whether `--help` is the only word after the program's name.
+#[tactic(auto, unfolding(crate::specs::Answers::help_asked))]
 fn is_help(words: usize, first: &[u8]) -> bool
     ensures { result ≡ help_asked words first.now }
 {
@@ -46,109 +66,103 @@ fn is_help(words: usize, first: &[u8]) -> bool
     is_same(first, b"--help")
 }
 
-// Whether help was asked for; if so, it is given on standard output.
-pub fn asked_for_help(help: &[u8]) -> bool
+// Whether help was asked for.
+#[tactic(auto, unfolding(crate::specs::Answers::help_asked))]
+pub fn asked_for_help<R: Env>(rt: &R) -> bool
     ensures { Asked result }
 {
-    let mut first = io::buffer();
-    let words = os::arg_count();
-    let n = os::arg(1, &mut first);
-    let asked = is_help(words, &first[..n]);
-    if asked {
-        write_out(help);
+    let words = word_count(rt);
+    let mut first = [0u8; LONGEST_WORD];
+    match rt.arg(1, &mut first) {
+        Ok(n) => is_help(words, &first[..n]),
+        Err(_) => false,
     }
-    asked
 }
 
 // Whether the program was called with this many words, its name among them; if not, how to call it
 // is said.
-pub fn called_with(words: usize, usage: &[u8]) -> bool
+pub fn called_with<R: Env + Eprint>(rt: &R, words: usize, usage: &str) -> bool
     ensures { Called words result }
 {
-    if os::arg_count() == words {
+    if word_count(rt) == words {
         return true;
     }
-    io::write_all(STDERR_FILENO, b"usage: ");
-    io::write_all(STDERR_FILENO, usage);
-    io::write_all(STDERR_FILENO, b"\n");
+    let _ = eprintln!(rt; "usage: {usage}");
     false
 }
 
-// The file that argument i names, `-` being standard input. -1 where it cannot be opened or read,
+// The file that argument i names, `-` being standard input. None where it cannot be opened or read,
 // which is said by its name: a read of no bytes tells a directory.
-pub fn open_argument(i: usize) -> i32
-    ensures { Descriptor result }
-{
-    let mut path = io::buffer();
-    let n = os::arg(i, &mut path);
-    if os::errno() != 0 {
-        os::fail(b"argument");
-        return -1;
+pub fn open_argument<R: Env + Files + Input + Eprint>(
+    rt: &R,
+    i: usize,
+) -> Option<Source<R::Reader, R::File>> {
+    let mut word = [0u8; LONGEST_WORD];
+    let Ok(n) = rt.arg(i, &mut word) else {
+        let _ = eprintln!(rt; "argument: {}", ErrorKind::InvalidFilename);
+        return None;
+    };
+    let Ok(name) = str::from_utf8(&word[..n]) else {
+        let name = word[..n].escape_ascii();
+        let _ = eprintln!(rt; "{name}: {}", ErrorKind::InvalidFilename);
+        return None;
+    };
+    match source::open(rt, name) {
+        Ok(source) => Some(source),
+        Err(e) => {
+            let _ = eprintln!(rt; "{name}: {e}");
+            None
+        }
     }
-    let fd = open(&path[..n]);
-    if fd < 0 {
-        os::fail(&path[..n]);
-        return -1;
-    }
-    let mut none = [0u8; 1];
-    if libc::read(fd, &mut none[..0]) < 0 {
-        os::fail(&path[..n]);
-        return -1;
-    }
-    fd
 }
 
-fn open(name: &[u8]) -> i32 {
-    if is_same(name, b"-") {
-        return STDIN_FILENO;
-    }
-    os::open_read(name)
-}
-
-// How a call that moves bytes ended, by what it answered and, where that is below 0, its error.
-fn how_of(got: isize, error: i32) -> How
-    ensures { result ≡ how_of got error }
+// How a call that moves bytes ended, by what it answered.
+fn how_of(got: &io::Result<usize>) -> How
+    ensures { result ≡ how_of got.now }
 {
-    if 0 < got {
-        return How::On;
+    match got {
+        Ok(0) => How::End,
+        Ok(_) => How::On,
+        Err(e) => match e.kind() {
+            ErrorKind::Interrupted => How::On,
+            _ => How::Failed,
+        },
     }
-    if got == 0 {
-        return How::End;
-    }
-    if error == libc::EINTR {
-        return How::On;
-    }
-    How::Failed
 }
 
 // The next piece of a file. Where it cannot be read, that is said.
-pub fn take_piece(fd: i32, buf: &mut [u8]) -> Taken
+pub fn take_piece<R: Eprint, S: Read>(rt: &R, source: &mut S, buf: &mut [u8]) -> Taken
     ensures prefix_len { IsPrefixLen result.len buf.new }
     ensures told { Told (length buf.new) result }
 {
-    let got = libc::read(fd, buf);
-    let how = how_of(got, os::errno());
-    if let How::Failed = how {
-        os::fail(b"read");
+    let got = source.read(buf);
+    let how = how_of(&got);
+    match got {
+        Ok(len) => Taken { len, how },
+        Err(e) => {
+            if let How::Failed = how {
+                let _ = eprintln!(rt; "read: {e}");
+            }
+            Taken { len: 0, how }
+        }
     }
-    let len = io::count(got, buf);
-    Taken { len, how }
 }
 
 // What of a file fits the lent bytes. How the last read ended says whether that is all of it.
-pub fn take_whole(fd: i32, buf: &mut [u8]) -> Taken
+pub fn take_whole<R: Eprint, S: Read>(rt: &R, source: &mut S, buf: &mut [u8]) -> Taken
     ensures { IsPrefixLen result.len buf.new }
 {
     let mut at = 0;
-    let mut turns = TURNS;
-    while at < buf.len() && 0 < turns {
-        let got = take_piece(fd, &mut buf[at..]);
+    for _ in 0..TURNS {
+        if at == buf.len() {
+            break;
+        }
+        let got = take_piece(rt, source, &mut buf[at..]);
         let how = got.how;
         let How::On = how else {
             return Taken { len: at, how };
         };
         at += got.len;
-        turns -= 1;
     }
     Taken {
         len: at,
@@ -157,29 +171,47 @@ pub fn take_whole(fd: i32, buf: &mut [u8]) -> Taken
 }
 
 // Whether all of the text was written to standard output; if not, that is said.
-fn write_out(text: &[u8]) -> bool
+pub fn write_out<R: Print + Eprint>(rt: &R, text: &[u8]) -> bool
     ensures { Out (length text.now) result }
 {
     let mut at = 0;
-    let mut turns = TURNS;
-    while at < text.len() && 0 < turns {
-        let got = libc::write(STDOUT_FILENO, &text[at..]);
-        let How::On = how_of(got, os::errno()) else {
-            os::fail(b"write");
+    for _ in 0..TURNS {
+        if at == text.len() {
+            break;
+        }
+        let got = rt.write_some(&text[at..]);
+        let How::On = how_of(&got) else {
+            say_unwritten(rt, got);
             return false;
         };
-        at += io::count(got, &text[at..]);
-        turns -= 1;
+        at += got.unwrap_or(0);
     }
     at == text.len()
 }
 
+// A write that took no byte has failed too.
+fn say_unwritten<R: Eprint>(rt: &R, got: io::Result<usize>) {
+    let _ = match got {
+        Ok(_) => eprintln!(rt; "write: {}", ErrorKind::WriteZero),
+        Err(e) => eprintln!(rt; "write: {e}"),
+    };
+}
+
 // The same of the first n bytes of some room.
-pub fn write_first(room: &[u8], n: usize) -> bool
+pub fn write_first<R: Print + Eprint>(rt: &R, room: &[u8], n: usize) -> bool
     ensures { First (length room.now) n result }
 {
     if room.len() < n {
         return false;
     }
-    write_out(&room[..n])
+    write_out(rt, &room[..n])
+}
+
+// The exit status of a program: 0 where everything was answered, else 1.
+pub fn exit_code(answered: bool) -> ExitCode {
+    if answered {
+        ExitCode::SUCCESS
+    } else {
+        ExitCode::FAILURE
+    }
 }

@@ -12,9 +12,10 @@ ghost use Rattle.lines.specs.Words.{mode_word};
 ghost use Rattle.fits.specs.Line.{fits_line};
 
 use decimal::put::{put_all, put_byte, put_number};
-use files::given::Case;
+use files::given::{Case, is_refused, say_refused};
+use std::process::ExitCode;
+use std::rt::Runtime;
 use table::{Mode, Refusal, Table};
-use text::Reading;
 use verdict::Fits;
 
 // No line is longer: a word, a mode and a row of two bytes each, with what parts and closes them.
@@ -67,7 +68,8 @@ fn line_of(t: Table, room: &mut [u8]) -> usize
     put_answer(f, room, 0)
 }
 
-fn main() {
+// Whether everything was answered; where not, why was said.
+fn is_answered<R: Runtime>(rt: &R) -> bool {
     let help = b"fits TABLE\n\
         Prints `yes` where no server of the table in the file TABLE misses in any mode,\n\
         else `no` with the mode and the row of the least miss: the least mode in the\n\
@@ -75,26 +77,29 @@ fn main() {
         A table that is refused prints one line: table, no, number, line, field\n\
         (0 is the line itself; for 5 both lines and no field).\n\
         `-` stands for standard input. README.md has the form and the numbers.\n";
-    if files::asked_for_help(help) {
-        return;
+    if files::asked_for_help(rt) {
+        return files::write_out(rt, help);
     }
-    if !files::called_with(2, b"fits TABLE") {
-        return;
+    if !files::called_with(rt, 2, "fits TABLE") {
+        return false;
     }
-    let fd = files::open_argument(1);
-    if fd < 0 {
-        return;
-    }
-    let given = files::given::take_table(fd);
+    let Some(mut source) = files::open_argument(rt, 1) else {
+        return false;
+    };
+    let given = files::given::take_table(rt, &mut source);
     let t = given.table;
     let case = given.case;
     let Case::Read(answer) = case else {
-        return;
+        return false;
     };
-    let Reading::Taken = answer else {
-        return;
-    };
+    if is_refused(answer) {
+        return say_refused(rt, answer);
+    }
     let mut room = [0u8; ROOM];
     let n = line_of(t, &mut room);
-    files::write_first(&room, n);
+    files::write_first(rt, &room, n)
+}
+
+fn main(rt: HostRuntime) -> ExitCode {
+    files::exit_code(is_answered(&rt))
 }

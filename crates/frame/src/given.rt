@@ -5,8 +5,9 @@ ghost use Rattle.std.specs.Prelude.{◌≡◌};
 ghost use Rattle.frame.specs.Handed.{frame_given_of, FrameHanded};
 
 use files::How;
-use files::given::{Case, ROOM, is_failed, say_refused};
+use files::given::{Case, ROOM, is_failed};
 use frametable::FrameTable;
+use std::io::Read;
 
 // What became of a table file, and the table; where there is none, the one that stands beside every
 // refusal.
@@ -35,18 +36,13 @@ fn given_of(how: How, text: &[u8]) -> FrameGiven
     }
 }
 
-// The table in an open file; where it is refused, that is answered.
-pub fn take_table(fd: i32) -> FrameGiven
+// The table in an open file.
+pub fn take_table<R: Eprint, S: Read>(rt: &R, source: &mut S) -> FrameGiven
     ensures { FrameHanded result }
 {
     let mut buf = [0u8; ROOM];
-    let got = files::take_whole(fd, &mut buf);
+    let got = files::take_whole(rt, source, &mut buf);
     let n = got.len;
     let how = got.how;
-    let given = given_of(how, &buf[..n]);
-    let case = given.case;
-    if let Case::Read(answer) = case {
-        say_refused(answer);
-    }
-    given
+    given_of(how, &buf[..n])
 }

@@ -11,12 +11,13 @@ ghost use Rattle.files.specs.Turns.{Lent};
 ghost use Rattle.night.specs.Pieces.{standing, piece_of, turn_of, NightReady};
 
 use files::How;
-use files::given::Case;
+use files::given::{Case, is_failed, is_refused, say_refused};
 use files::pieces::{PIECE, ROOM, answer_last};
-use libc::STDERR_FILENO;
 use lines::{BATCH, Held, LONGEST_ANSWER, smaller_of};
 use run::Run;
-use text::Reading;
+use std::io::Read;
+use std::process::ExitCode;
+use std::rt::Runtime;
 
 // A night so far: the run, the line that is held, how many bytes were made for the writer last, and
 // whether it goes on.
@@ -82,71 +83,74 @@ fn next(n: Night, how: How, bytes: &[u8], room: &mut [u8]) -> Night
     }
 }
 
-// The whole file. Nothing else reads or writes.
-fn answer_all(n: Night, fd: i32)
+// The whole file: whether all of it was read and answered. Nothing else reads or writes.
+fn answer_all<R: Print + Eprint, S: Read>(rt: &R, n: Night, events: &mut S) -> bool
     requires { NightReady n }
 {
     let mut night = n;
     let mut piece = [0u8; PIECE];
     let mut room = [0u8; ROOM];
-    let mut turns = files::TURNS;
-    while 0 < turns && night.going {
-        let got = files::take_piece(fd, &mut piece);
+    for _ in 0..files::TURNS {
+        let got = files::take_piece(rt, events, &mut piece);
         let k = got.len;
         let how = got.how;
         night = next(night, how, &piece[..k], &mut room);
         let put = night.put;
-        if !files::write_first(&room, put) {
-            return;
+        if !files::write_first(rt, &room, put) {
+            return false;
         }
-        turns -= 1;
+        if !night.going {
+            return !is_failed(how);
+        }
     }
+    false
 }
 
-fn main() {
+// Whether everything was answered; where not, why was said.
+fn is_answered<R: Runtime>(rt: &R) -> bool {
     let help = b"night TABLE EVENTS\n\
         Prints the answer to each line of the file EVENTS, from a fresh start with the\n\
         table in TABLE.\n\
         A table that is refused prints one line: table, no, number, line, field\n\
         (0 is the line itself; for 5 both lines and no field).\n\
         `-` stands for standard input. README.md has the forms and the numbers.\n";
-    if files::asked_for_help(help) {
-        return;
+    if files::asked_for_help(rt) {
+        return files::write_out(rt, help);
     }
-    if !files::called_with(3, b"night TABLE EVENTS") {
-        return;
+    if !files::called_with(rt, 3, "night TABLE EVENTS") {
+        return false;
     }
-    let table = files::open_argument(1);
-    if table < 0 {
-        return;
+    let Some(mut table) = files::open_argument(rt, 1) else {
+        return false;
+    };
+    let Some(mut events) = files::open_argument(rt, 2) else {
+        return false;
+    };
+    if table.is_input() && events.is_input() {
+        let _ = eprintln!(rt; "night: standard input is given twice");
+        return false;
     }
-    let events = files::open_argument(2);
-    if events < 0 {
-        return;
-    }
-    if table == events {
-        io::write_all(STDERR_FILENO, b"night: standard input is given twice\n");
-        return;
-    }
-    let given = files::given::take_table(table);
+    let given = files::given::take_table(rt, &mut table);
     let t = given.table;
     let case = given.case;
     let Case::Read(answer) = case else {
-        return;
+        return false;
     };
-    let Reading::Taken = answer else {
-        return;
-    };
+    if is_refused(answer) {
+        return say_refused(rt, answer);
+    }
     let started = scheduler::start(t);
     let run = started.run;
     let held = cutter::no_line();
-    answer_all(
-        Night {
-            run,
-            held,
-            put: 0,
-            going: true,
-        },
-        events,
-    );
+    let night = Night {
+        run,
+        held,
+        put: 0,
+        going: true,
+    };
+    answer_all(rt, night, &mut events)
+}
+
+fn main(rt: HostRuntime) -> ExitCode {
+    files::exit_code(is_answered(&rt))
 }

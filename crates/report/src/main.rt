@@ -15,13 +15,14 @@ ghost use Rattle.report.specs.Pieces.{standing, AfterSome, Reads, ReadsSome, pie
 use count::{SERVER_COUNTS, TASK_COUNTS};
 use events::{LINE_VALUES, TOLD_VALUES};
 use files::How;
-use files::given::Case;
-use libc::STDERR_FILENO;
+use files::given::{Case, is_refused, say_refused};
 use lines::Held;
 use page::ROOM;
 use run::{FOUND_VALUES, Run};
+use std::io::Read;
+use std::process::ExitCode;
+use std::rt::Runtime;
 use table::MODES;
-use text::Reading;
 
 // The event file is read in pieces of so many bytes.
 const PIECE: usize = 16384;
@@ -113,9 +114,10 @@ fn next(
 }
 
 // The whole file. Nothing else reads it.
-fn count_all(
+fn count_all<R: Eprint, S: Read>(
+    rt: &R,
     n: Morning,
-    fd: i32,
+    events: &mut S,
     servers: &mut [u32; SERVER_COUNTS],
     tasks: &mut [u64; TASK_COUNTS],
     modes: &mut [u64; MODES],
@@ -127,13 +129,14 @@ fn count_all(
 {
     let mut m = n;
     let mut piece = [0u8; PIECE];
-    let mut turns = files::TURNS;
-    while 0 < turns && m.going {
-        let got = files::take_piece(fd, &mut piece);
+    for _ in 0..files::TURNS {
+        let got = files::take_piece(rt, events, &mut piece);
         let k = got.len;
         let how = got.how;
         m = next(m, how, &piece[..k], servers, tasks, modes);
-        turns -= 1;
+        if !m.going {
+            break;
+        }
     }
     m
 }
@@ -158,7 +161,8 @@ fn put_report(
     page::put_page(t.nservers, t.ntasks, servers, tasks, &waiting, modes, room)
 }
 
-fn main() {
+// Whether everything was answered; where not, why was said.
+fn is_answered<R: Runtime>(rt: &R) -> bool {
     let help = b"report TABLE EVENTS\n\
         Prints the morning report of the event file EVENTS, from a fresh start with the\n\
         table in TABLE. For each server: row, ticks charged, empty turns, and the longest\n\
@@ -167,55 +171,59 @@ fn main() {
         A table that is refused prints one line: table, no, number, line, field\n\
         (0 is the line itself; for 5 both lines and no field).\n\
         `-` stands for standard input. README.md has the forms and the numbers.\n";
-    if files::asked_for_help(help) {
-        return;
+    if files::asked_for_help(rt) {
+        return files::write_out(rt, help);
     }
-    if !files::called_with(3, b"report TABLE EVENTS") {
-        return;
+    if !files::called_with(rt, 3, "report TABLE EVENTS") {
+        return false;
     }
-    let table = files::open_argument(1);
-    if table < 0 {
-        return;
+    let Some(mut table) = files::open_argument(rt, 1) else {
+        return false;
+    };
+    let Some(mut events) = files::open_argument(rt, 2) else {
+        return false;
+    };
+    if table.is_input() && events.is_input() {
+        let _ = eprintln!(rt; "report: standard input is given twice");
+        return false;
     }
-    let events = files::open_argument(2);
-    if events < 0 {
-        return;
-    }
-    if table == events {
-        io::write_all(STDERR_FILENO, b"report: standard input is given twice\n");
-        return;
-    }
-    let given = files::given::take_table(table);
+    let given = files::given::take_table(rt, &mut table);
     let t = given.table;
     let case = given.case;
     let Case::Read(answer) = case else {
-        return;
+        return false;
     };
-    let Reading::Taken = answer else {
-        return;
-    };
+    if is_refused(answer) {
+        return say_refused(rt, answer);
+    }
     let started = scheduler::start(t);
     let run = started.run;
     let held = cutter::no_line();
     let mut servers = [0u32; SERVER_COUNTS];
     let mut tasks = [0u64; TASK_COUNTS];
     let mut modes = [0u64; MODES];
+    let morning = Morning {
+        run,
+        held,
+        going: true,
+        whole: false,
+    };
     let read = count_all(
-        Morning {
-            run,
-            held,
-            going: true,
-            whole: false,
-        },
-        events,
+        rt,
+        morning,
+        &mut events,
         &mut servers,
         &mut tasks,
         &mut modes,
     );
     if !read.whole {
-        return;
+        return false;
     }
     let mut room = [0u8; ROOM];
     let n = put_report(read, &servers, &tasks, &modes, &mut room);
-    files::write_first(&room, n);
+    files::write_first(rt, &room, n)
+}
+
+fn main(rt: HostRuntime) -> ExitCode {
+    files::exit_code(is_answered(&rt))
 }

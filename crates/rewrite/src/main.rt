@@ -5,9 +5,11 @@
 ghost use Rattle.std.specs.Prelude.{◌≡◌, ◌≤◌, length, take};
 ghost use Rattle.rewrite.specs.Rewritten.{rewritten};
 
-use files::given::Case;
+use files::given::{Case, is_refused, say_refused};
+use std::process::ExitCode;
+use std::rt::Runtime;
 use table::Table;
-use text::{LONGEST_TEXT, Reading, Writing};
+use text::{LONGEST_TEXT, Writing};
 
 // The text of a table at the front of the room: how many bytes it has.
 fn text_of(t: Table, room: &mut [u8]) -> usize
@@ -20,32 +22,36 @@ fn text_of(t: Table, room: &mut [u8]) -> usize
     }
 }
 
-fn main() {
+// Whether everything was answered; where not, why was said.
+fn is_answered<R: Runtime>(rt: &R) -> bool {
     let help = b"rewrite TABLE\n\
         Prints the table in the file TABLE as it is held, written back.\n\
         A table that is refused prints one line: table, no, number, line, field\n\
         (0 is the line itself; for 5 both lines and no field).\n\
         `-` stands for standard input. README.md has the form and the numbers.\n";
-    if files::asked_for_help(help) {
-        return;
+    if files::asked_for_help(rt) {
+        return files::write_out(rt, help);
     }
-    if !files::called_with(2, b"rewrite TABLE") {
-        return;
+    if !files::called_with(rt, 2, "rewrite TABLE") {
+        return false;
     }
-    let fd = files::open_argument(1);
-    if fd < 0 {
-        return;
-    }
-    let given = files::given::take_table(fd);
+    let Some(mut source) = files::open_argument(rt, 1) else {
+        return false;
+    };
+    let given = files::given::take_table(rt, &mut source);
     let t = given.table;
     let case = given.case;
     let Case::Read(answer) = case else {
-        return;
+        return false;
     };
-    let Reading::Taken = answer else {
-        return;
-    };
+    if is_refused(answer) {
+        return say_refused(rt, answer);
+    }
     let mut room = [0u8; LONGEST_TEXT];
     let n = text_of(t, &mut room);
-    files::write_first(&room, n);
+    files::write_first(rt, &room, n)
+}
+
+fn main(rt: HostRuntime) -> ExitCode {
+    files::exit_code(is_answered(&rt))
 }

@@ -13,19 +13,23 @@ use verdict::{Fits, Verdict};
 // What a room holds before it is lent.
 const BEFORE: u8 = b'~';
 
-fn say_verdict(t: Table, row: usize, m: Mode) -> bool {
+fn say_verdict<R: Print + Eprint>(rt: &R, t: Table, row: usize, m: Mode) -> bool {
     match verdict::verdict_of(t, row, m) {
-        Verdict::Response(r) => say_line(b"verdict", &[1, r.0 as u64]),
-        Verdict::Misses => say_line(b"verdict", &[0, 0]),
-        Verdict::No(why) => say_no(why),
+        Verdict::Response(r) => say_line(rt, b"verdict", &[1, r.0 as u64]),
+        Verdict::Misses => say_line(rt, b"verdict", &[0, 0]),
+        Verdict::No(why) => say_no(rt, why),
     }
 }
 
-fn say_fits(f: Fits) -> bool {
+fn say_fits<R: Print + Eprint>(rt: &R, f: Fits) -> bool {
     match f {
-        Fits::Yes => say_line(b"fits", &[1, 0, 0]),
-        Fits::Miss { mode, row } => say_line(b"fits", &[0, table::mode_value(mode), row as u64]),
-        Fits::No(why) => say_no(why),
+        Fits::Yes => say_line(rt, b"fits", &[1, 0, 0]),
+        Fits::Miss { mode, row } => say_line(
+            rt,
+            b"fits",
+            &[0, table::mode_value(mode), row as u64],
+        ),
+        Fits::No(why) => say_no(rt, why),
     }
 }
 
@@ -46,23 +50,23 @@ fn write_in(t: Table, size: usize, room: &mut [u8]) -> Writing {
 }
 
 // "A writer changes nothing beyond the text", and a refused one nothing at all: what no answer of the format could say is said too.
-fn say_written(t: Table, size: usize) -> bool {
+fn say_written<R: Print + Eprint>(rt: &R, t: Table, size: usize) -> bool {
     let mut room = [BEFORE; LONGEST_SAID];
     match write_in(t, size, &mut room) {
         Writing::Written(many) => {
             if !is_kept(&room, many) {
-                return say_line(b"changed beyond the text", &[]);
+                return say_line(rt, b"changed beyond the text", &[]);
             }
-            if !say_line(b"write", &[many as u64]) {
+            if !say_line(rt, b"write", &[many as u64]) {
                 return false;
             }
-            files::write_first(&room, many)
+            files::write_first(rt, &room, many)
         }
         Writing::Refused(why) => {
             if !is_kept(&room, 0) {
-                return say_line(b"changed though refused", &[]);
+                return say_line(rt, b"changed though refused", &[]);
             }
-            say_no(why)
+            say_no(rt, why)
         }
     }
 }
@@ -92,7 +96,7 @@ fn put_budgets(s: State, n: usize, room: &mut [u8], at: usize) -> usize {
 }
 
 // After the line of what was taken, the next state.
-fn say_state(word: &[u8], numbers: &[u64], r: Run) -> bool {
+fn say_state<R: Print + Eprint>(rt: &R, word: &[u8], numbers: &[u64], r: Run) -> bool {
     let t = r.table;
     let s = r.state;
     let waiting = s.waiting;
@@ -102,48 +106,48 @@ fn say_state(word: &[u8], numbers: &[u64], r: Run) -> bool {
     let k = put_head(s, &mut room, k);
     let k = put_budgets(s, t.nservers, &mut room, k);
     let k = put_queues(waiting, runs, t.ntasks, &mut room, k);
-    files::write_first(&room, k)
+    files::write_first(rt, &room, k)
 }
 
 // What is told of a tick as plain numbers is the eight of the format, behind one that says that it is
 // a tick.
-fn say_tick(a: TickAnswer, r: Run) -> bool {
+fn say_tick<R: Print + Eprint>(rt: &R, a: TickAnswer, r: Run) -> bool {
     let values = events::told_values(Told::Ticked(a));
-    say_state(b"tick", &values[1..], r)
+    say_state(rt, b"tick", &values[1..], r)
 }
 
-fn say_begun(b: Begun) -> bool {
+fn say_begun<R: Print + Eprint>(rt: &R, b: Begun) -> bool {
     let answer = b.answer;
     let r = b.run;
     match answer {
-        Starting::Started => say_state(b"fresh", &[], r),
-        Starting::Refused(why) => say_no(why),
+        Starting::Started => say_state(rt, b"fresh", &[], r),
+        Starting::Refused(why) => say_no(rt, why),
     }
 }
 
-fn say_answered(a: Answered) -> bool {
+fn say_answered<R: Print + Eprint>(rt: &R, a: Answered) -> bool {
     let answer = a.answer;
     let r = a.run;
     match answer {
-        Answer::Released(_) => say_state(b"release", &[], r),
-        Answer::Ticked(t) => say_tick(t, r),
-        Answer::No(why) => say_no(why),
+        Answer::Released(_) => say_state(rt, b"release", &[], r),
+        Answer::Ticked(t) => say_tick(rt, t, r),
+        Answer::No(why) => say_no(rt, why),
     }
 }
 
 // Whether the answer was written.
-pub(crate) fn say_answer(b: Block, asked: Operation) -> bool {
+pub(crate) fn say_answer<R: Print + Eprint>(rt: &R, b: Block, asked: Operation) -> bool {
     let t = b.table;
     let s = b.state;
     let r = Run { table: t, state: s };
     match asked {
-        Operation::Fresh => say_begun(scheduler::start(t)),
-        Operation::Release(task) => say_answered(scheduler::release(r, task)),
-        Operation::Tick(mark) => say_answered(scheduler::tick(r, mark)),
-        Operation::Verdict(row, m) => say_verdict(t, row, m),
-        Operation::Fits => say_fits(verdict::fits_of(t)),
-        Operation::RunFits => say_fits(fitting::run_fits(r)),
-        Operation::Write(size) => say_written(t, size),
+        Operation::Fresh => say_begun(rt, scheduler::start(t)),
+        Operation::Release(task) => say_answered(rt, scheduler::release(r, task)),
+        Operation::Tick(mark) => say_answered(rt, scheduler::tick(r, mark)),
+        Operation::Verdict(row, m) => say_verdict(rt, t, row, m),
+        Operation::Fits => say_fits(rt, verdict::fits_of(t)),
+        Operation::RunFits => say_fits(rt, fitting::run_fits(r)),
+        Operation::Write(size) => say_written(rt, t, size),
         Operation::Nothing => true,
     }
 }

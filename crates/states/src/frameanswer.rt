@@ -17,7 +17,7 @@ fn put_box(s: FrameState, room: &mut [u8], at: usize) -> usize {
 }
 
 // After the line of what was taken, the next state.
-fn say_state(word: &[u8], numbers: &[u64], r: FrameRun) -> bool {
+fn say_state<R: Print + Eprint>(rt: &R, word: &[u8], numbers: &[u64], r: FrameRun) -> bool {
     let t = r.table;
     let s = r.state;
     let waiting = s.waiting;
@@ -26,39 +26,39 @@ fn say_state(word: &[u8], numbers: &[u64], r: FrameRun) -> bool {
     let k = put_line(word, numbers, &mut room, 0);
     let k = put_box(s, &mut room, k);
     let k = put_queues(waiting, runs, t.ntasks, &mut room, k);
-    files::write_first(&room, k)
+    files::write_first(rt, &room, k)
 }
 
-fn say_tick(a: TickAnswer, r: FrameRun) -> bool {
+fn say_tick<R: Print + Eprint>(rt: &R, a: TickAnswer, r: FrameRun) -> bool {
     let values = events::told_values(Told::Ticked(a));
-    say_state(b"tick", &values[1..], r)
+    say_state(rt, b"tick", &values[1..], r)
 }
 
-fn say_begun(b: FrameBegun) -> bool {
+fn say_begun<R: Print + Eprint>(rt: &R, b: FrameBegun) -> bool {
     let answer = b.answer;
     let r = b.run;
     match answer {
-        Starting::Started => say_state(b"fresh", &[], r),
-        Starting::Refused(why) => say_no(why),
+        Starting::Started => say_state(rt, b"fresh", &[], r),
+        Starting::Refused(why) => say_no(rt, why),
     }
 }
 
-fn say_answered(a: FrameAnswered) -> bool {
+fn say_answered<R: Print + Eprint>(rt: &R, a: FrameAnswered) -> bool {
     let answer = a.answer;
     let r = a.run;
     match answer {
-        Answer::Released(_) => say_state(b"release", &[], r),
-        Answer::Ticked(t) => say_tick(t, r),
-        Answer::No(why) => say_no(why),
+        Answer::Released(_) => say_state(rt, b"release", &[], r),
+        Answer::Ticked(t) => say_tick(rt, t, r),
+        Answer::No(why) => say_no(rt, why),
     }
 }
 
 // Whether the answer was written. No other operation ends a frame block.
-pub(crate) fn say_answer(r: FrameRun, asked: Operation) -> bool {
+pub(crate) fn say_answer<R: Print + Eprint>(rt: &R, r: FrameRun, asked: Operation) -> bool {
     match asked {
-        Operation::Fresh => say_begun(framescheduler::start(r.table)),
-        Operation::Release(task) => say_answered(framescheduler::release(r, task)),
-        Operation::Tick(mark) => say_answered(framescheduler::tick(r, mark)),
+        Operation::Fresh => say_begun(rt, framescheduler::start(r.table)),
+        Operation::Release(task) => say_answered(rt, framescheduler::release(r, task)),
+        Operation::Tick(mark) => say_answered(rt, framescheduler::tick(r, mark)),
         _ => true,
     }
 }

@@ -13,10 +13,17 @@ mod said;
 
 use crate::block::{Block, Operation};
 use crate::line::{Fields, WIDE, is_line};
-use libc::STDERR_FILENO;
+use files::How;
+use std::io::Read;
+use std::process::ExitCode;
+use std::rt::Runtime;
+use std::str;
 
 // A line of the format has at most some 120 bytes.
 const LONGEST_LINE: usize = 256;
+
+// The file is read in pieces of so many bytes.
+const PIECE: usize = 65536;
 
 // What was taken of the file so far: the block that is open, and how many bytes of the line that is not closed yet are held.
 #[derive(Clone, Copy)]
@@ -26,10 +33,12 @@ struct Feed {
     ended: bool,
 }
 
-fn say(what: &[u8], line: &[u8]) {
-    io::write_all(STDERR_FILENO, what);
-    io::write_all(STDERR_FILENO, line);
-    io::write_all(STDERR_FILENO, b"\n");
+// What is no text is said with escapes.
+fn say<R: Eprint>(rt: &R, what: &str, line: &[u8]) {
+    let _ = match str::from_utf8(line) {
+        Ok(text) => eprintln!(rt; "{what}{text}"),
+        Err(_) => eprintln!(rt; "{what}{}", line.escape_ascii()),
+    };
 }
 
 // "A block begins with its `table` line", or with its `frame` line.
@@ -54,16 +63,16 @@ fn take_row(b: Block, word: &[u8], f: Fields) -> Block {
     block::take_row(b, word, f)
 }
 
-fn say_answer(b: Block, asked: Operation) -> bool {
+fn say_answer<R: Print + Eprint>(rt: &R, b: Block, asked: Operation) -> bool {
     let r = b.frame;
     if b.framed {
-        return frameanswer::say_answer(r, asked);
+        return frameanswer::say_answer(rt, r, asked);
     }
-    answer::say_answer(b, asked)
+    answer::say_answer(rt, b, asked)
 }
 
 // A line, without its line feed.
-fn take_line(b: Block, line: &[u8]) -> Block {
+fn take_line<R: Print + Eprint>(rt: &R, b: Block, line: &[u8]) -> Block {
     if block::is_passed_over(line) {
         return b;
     }
@@ -73,32 +82,32 @@ fn take_line(b: Block, line: &[u8]) -> Block {
     if !block::is_asked(asked) {
         let taken = take_row(b, word, f);
         if taken.broken {
-            say(b"not in the format: ", line);
+            say(rt, "not in the format: ", line);
         }
         return taken;
     }
     if !b.open {
-        say(b"no block before: ", line);
+        say(rt, "no block before: ", line);
         return block::broken(b);
     }
-    if !say_answer(b, asked) {
+    if !say_answer(rt, b, asked) {
         return block::broken(b);
     }
     block::empty()
 }
 
 // The held line, closed. One that fills all that is held is too long.
-fn close_line(b: Block, held: &[u8], len: usize) -> Block {
+fn close_line<R: Print + Eprint>(rt: &R, b: Block, held: &[u8], len: usize) -> Block {
     if held.len() <= len {
-        say(b"too long: ", held);
+        say(rt, "too long: ", held);
         return block::broken(b);
     }
     let n = part::first(len, held);
-    take_line(b, &held[..n])
+    take_line(rt, b, &held[..n])
 }
 
 // The lines of a piece of the file. Where it ends within a line, the start of that line is held.
-fn take_lines(f: Feed, held: &mut [u8], piece: &[u8]) -> Feed {
+fn take_lines<R: Print + Eprint>(rt: &R, f: Feed, held: &mut [u8], piece: &[u8]) -> Feed {
     let mut b = f.block;
     let mut len = f.len;
     let mut at = 0;
@@ -108,7 +117,7 @@ fn take_lines(f: Feed, held: &mut [u8], piece: &[u8]) -> Feed {
         if e == piece.len() {
             break;
         }
-        b = close_line(b, held, len);
+        b = close_line(rt, b, held, len);
         if b.broken {
             break;
         }
@@ -122,49 +131,60 @@ fn take_lines(f: Feed, held: &mut [u8], piece: &[u8]) -> Feed {
     }
 }
 
-fn take_some(fd: i32, f: Feed, held: &mut [u8]) -> Feed {
-    let mut buf = io::large_buffer();
-    let got = files::take_piece(fd, &mut buf);
+fn take_some<R: Print + Eprint, S: Read>(rt: &R, source: &mut S, f: Feed, held: &mut [u8]) -> Feed {
+    let mut piece = [0u8; PIECE];
+    let got = files::take_piece(rt, source, &mut piece);
     let n = got.len;
-    if n == 0 {
-        return Feed { ended: true, ..f };
+    let how = got.how;
+    match how {
+        How::On => take_lines(rt, f, held, &piece[..n]),
+        How::End => Feed { ended: true, ..f },
+        How::Failed => Feed {
+            block: block::broken(f.block),
+            ended: true,
+            ..f
+        },
     }
-    take_lines(f, held, &buf[..n])
 }
 
-// A proved loop has to end, and nothing says that a file does: turns are counted down from a number that no run uses up.
-fn take_all(fd: i32, held: &mut [u8]) -> Feed {
+fn take_all<R: Print + Eprint, S: Read>(rt: &R, source: &mut S, held: &mut [u8]) -> Feed {
     let mut f = Feed {
         block: block::empty(),
         len: 0,
         ended: false,
     };
-    let mut turns = u64::MAX;
-    while turns > 0 && !f.ended {
-        f = take_some(fd, f, held);
-        turns -= 1;
+    for _ in 0..files::TURNS {
+        if f.ended {
+            break;
+        }
+        f = take_some(rt, source, f, held);
     }
     f
 }
 
-fn main() {
-    if !files::called_with(2, b"states FILE") {
-        return;
+// Whether everything was answered; where not, why was said.
+fn is_answered<R: Runtime>(rt: &R) -> bool {
+    if !files::called_with(rt, 2, "states FILE") {
+        return false;
     }
-    let fd = files::open_argument(1);
-    if fd < 0 {
-        return;
-    }
+    let Some(mut source) = files::open_argument(rt, 1) else {
+        return false;
+    };
     let mut held = [0u8; LONGEST_LINE];
-    let f = take_all(fd, &mut held);
+    let f = take_all(rt, &mut source, &mut held);
     let b = f.block;
     if b.broken {
-        return;
+        return false;
     }
     if b.open {
-        say(b"the last block has no operation", b"");
+        say(rt, "the last block has no operation", b"");
     }
     if 0 < f.len {
-        say(b"the last line is not closed", b"");
+        say(rt, "the last line is not closed", b"");
     }
+    !b.open && f.len == 0
+}
+
+fn main(rt: HostRuntime) -> ExitCode {
+    files::exit_code(is_answered(&rt))
 }

@@ -1,6 +1,6 @@
 // The first bytes of a room.
 
-ghost use Rattle.io.specs.Counts.{IsPrefixLen};
+ghost use Rattle.files.specs.Answers.{IsPrefixLen};
 
 // As many as are asked for, or all of them. Its contract is what `&room[..n]` asks.
 pub(crate) fn first(n: usize, room: &[u8]) -> usize

@@ -18,14 +18,14 @@ pub(crate) fn put_line(word: &[u8], numbers: &[u64], room: &mut [u8], at: usize)
     put_byte(decimal::LINE_FEED, room, k)
 }
 
-pub(crate) fn say_line(word: &[u8], numbers: &[u64]) -> bool {
+pub(crate) fn say_line<R: Print + Eprint>(rt: &R, word: &[u8], numbers: &[u64]) -> bool {
     let mut room = [0u8; LONGEST_SAID];
     let n = put_line(word, numbers, &mut room, 0);
-    files::write_first(&room, n)
+    files::write_first(rt, &room, n)
 }
 
-pub(crate) fn say_no(why: Refusal) -> bool {
-    say_line(b"no", &[table::number_of(why)])
+pub(crate) fn say_no<R: Print + Eprint>(rt: &R, why: Refusal) -> bool {
+    say_line(rt, b"no", &[table::number_of(why)])
 }
 
 // How many of a state's rows are shown: those in use.

@@ -11,9 +11,10 @@ ghost use Rattle.table.specs.Rules.{table_keeps};
 ghost use Rattle.verdicts.specs.Page.{verdict_word, row_line, page};
 
 use decimal::put::{put_all, put_byte, put_number};
-use files::given::Case;
+use files::given::{Case, is_refused, say_refused};
+use std::process::ExitCode;
+use std::rt::Runtime;
 use table::Table;
-use text::Reading;
 use verdict::{RowVerdicts, Verdict};
 
 // A row has at most a number of 2 digits and three verdicts of 10 bytes, with what parts and closes
@@ -65,33 +66,37 @@ fn put_page(t: Table, room: &mut [u8]) -> usize
     k
 }
 
-fn main() {
+// Whether everything was answered; where not, why was said.
+fn is_answered<R: Runtime>(rt: &R) -> bool {
     let help = b"verdicts TABLE\n\
         Prints for each server row of the table in the file TABLE its number and its\n\
         response in N, D1 and D2, in ticks, `misses` where there is none.\n\
         A table that is refused prints one line: table, no, number, line, field\n\
         (0 is the line itself; for 5 both lines and no field).\n\
         `-` stands for standard input. README.md has the form and the numbers.\n";
-    if files::asked_for_help(help) {
-        return;
+    if files::asked_for_help(rt) {
+        return files::write_out(rt, help);
     }
-    if !files::called_with(2, b"verdicts TABLE") {
-        return;
+    if !files::called_with(rt, 2, "verdicts TABLE") {
+        return false;
     }
-    let fd = files::open_argument(1);
-    if fd < 0 {
-        return;
-    }
-    let given = files::given::take_table(fd);
+    let Some(mut source) = files::open_argument(rt, 1) else {
+        return false;
+    };
+    let given = files::given::take_table(rt, &mut source);
     let t = given.table;
     let case = given.case;
     let Case::Read(answer) = case else {
-        return;
+        return false;
     };
-    let Reading::Taken = answer else {
-        return;
-    };
+    if is_refused(answer) {
+        return say_refused(rt, answer);
+    }
     let mut room = [0u8; ROOM];
     let n = put_page(t, &mut room);
-    files::write_first(&room, n);
+    files::write_first(rt, &room, n)
+}
+
+fn main(rt: HostRuntime) -> ExitCode {
+    files::exit_code(is_answered(&rt))
 }

@@ -1,0 +1,10 @@
+-- `report::page::put_tasks` meets its contract: before row i the lines of the first i rows are put.
+-- Assumes nothing.
+use Prim.Native.Nat.{◌≤◌}
+use Rattle.morning.specs.Page.{row_lines}
+use Rattle.report.specs.Inner.Page.{LinesPut, task_line_in}
+use Rattle.report.proofs.page.put_tasks.Given as goal
+
+abbrev pub invariant-loop-i : goal.invariant-loop-i
+invariant-loop-i l =
+    (l.i ≤ l.n) × LinesPut (row_lines (task_line_in l.tasks l.waiting) l.i) l.initial.room l.at l.room l.k
