@@ -20,11 +20,13 @@ use Rattle.report.specs.Pieces.{AfterSome}
 use Rattle.report.proofs.Pieces.{start_after, some_after}
 use Rattle.report.proofs.is_answered.Goals as goal
 
+-- what is not refused was taken
 taken : (a : Reading) → is_refused a ≡ false → a ≡ Taken
 taken Taken e = refl
 taken (Refused why line field) e = cc
 taken (Equal first second) e = cc
 
+-- the arrays of a table that was taken have the lengths of every table that code holds
 sized : (g : Given) → Handed g → (a : Reading) → g.case ≡ Answer a → a ≡ Taken → Sized g.table
 sized g h a e t =
     let d = shown (read h.text) in
