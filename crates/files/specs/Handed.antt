@@ -1,10 +1,11 @@
 -- What is given by a table file: by how it was read and, where it was, what the reader says of its
 -- text.
-use Rattle.std.specs.Prelude.{ℕ, ◌≤◌, ◌≡◌, Bool, true, false, List, length, if◌then◌else◌}
+use Rattle.std.specs.Prelude.{ℕ, ◌≤◌, ◌≡◌, Bool, true, false, List, [], length, if◌then◌else◌}
 use Rattle.table.specs.Rows.{no_table}
 use Rattle.text.specs.declared.Reading.{Reading}
 use Rattle.text.specs.declared.Reading.TheVariants.{Taken, Refused, Equal}
 use Rattle.text.specs.Read.{read, shown}
+use Rattle.lines.specs.AnswerLine.{closed_line, refused_fields}
 use Rattle.files.specs.declared.How.{How}
 use Rattle.files.specs.declared.How.TheVariants.{On, End, Failed}
 use Rattle.files.specs.declared.given.Case.{Case}
@@ -21,6 +22,10 @@ abbrev pub is_refused : Reading → Bool
 is_refused Taken = false
 is_refused (Refused why line field) = true
 is_refused (Equal first second) = true
+
+-- what is printed of a reader's answer: nothing of a table that was taken
+abbrev pub said_of : Reading → List ℕ
+said_of a = if is_refused a then closed_line (refused_fields a) else []
 
 -- a read failed; or the reader answers
 abbrev pub case_of : How → Reading → Case

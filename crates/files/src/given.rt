@@ -2,9 +2,8 @@
 // rows serves every kind of table.
 
 ghost use Rattle.std.specs.Prelude.{◌≡◌, length};
-ghost use Rattle.lines.specs.AnswerLine.{closed_line, refused_fields};
 ghost use Rattle.files.specs.Answers.{Out};
-ghost use Rattle.files.specs.Handed.{is_failed, is_refused, given_of, Handed};
+ghost use Rattle.files.specs.Handed.{is_failed, is_refused, said_of, given_of, Handed};
 
 use crate::How;
 use lines::LONGEST_ANSWER;
@@ -27,6 +26,13 @@ pub enum Case {
 pub struct Given {
     pub case: Case,
     pub table: Table,
+}
+
+// What became of a reader's answer: whether it is a refusal, and whether what it prints was written.
+#[derive(Clone, Copy)]
+pub struct Said {
+    pub refused: bool,
+    pub written: bool,
 }
 
 // Whether a file could not be read.
@@ -59,8 +65,7 @@ fn given_of(how: How, text: &[u8]) -> Given
     }
 }
 
-// Whether a table is refused.
-pub fn is_refused(a: Reading) -> bool
+fn is_refused(a: Reading) -> bool
     ensures { result ≡ is_refused a }
 {
     match a {
@@ -70,13 +75,23 @@ pub fn is_refused(a: Reading) -> bool
     }
 }
 
-// "A refused table prints only" its one line: whether all of it was written.
-pub fn say_refused<R: Print + Eprint>(rt: &R, a: Reading) -> bool
-    ensures { Out (length (closed_line (refused_fields a))) result }
+// Whether a table is refused; "A refused table prints only" its one line. And whether all that there
+// is to print was written.
+pub fn say_refused<R: Print + Eprint>(rt: &R, a: Reading) -> Said
+    ensures refused { result.refused ≡ is_refused a }
+    ensures written { Out (length (said_of a)) result.written }
 {
+    let refused = is_refused(a);
+    if !refused {
+        return Said {
+            refused,
+            written: true,
+        };
+    }
     let mut line = [0u8; LONGEST_ANSWER];
     let n = printer::put_refused(a, &mut line, 0);
-    crate::write_first(rt, &line, n)
+    let written = crate::write_first(rt, &line, n);
+    Said { refused, written }
 }
 
 // The table in an open file.

@@ -9,7 +9,8 @@ pub mod given;
 pub mod pieces;
 pub mod source;
 
-ghost use Rattle.std.specs.Prelude.{◌≡◌, length};
+ghost use Rattle.std.specs.Prelude.{◌≡◌, length, if◌then◌else◌};
+ghost use Rattle.std.specs.Process.{exit_status};
 ghost use Rattle.files.specs.Answers.{help_asked, Asked, Called, IsPrefixLen};
 ghost use Rattle.files.specs.Answers.{how_of, Told, Out, First};
 
@@ -208,7 +209,9 @@ pub fn write_first<R: Print + Eprint>(rt: &R, room: &[u8], n: usize) -> bool
 }
 
 // The exit status of a program: 0 where everything was answered, else 1.
-pub fn exit_code(answered: bool) -> ExitCode {
+pub fn exit_code(answered: bool) -> ExitCode
+    ensures { exit_status result ≡ (if answered then 0 else 1) }
+{
     if answered {
         ExitCode::SUCCESS
     } else {

@@ -12,7 +12,7 @@ ghost use Rattle.lines.specs.Words.{mode_word};
 ghost use Rattle.fits.specs.Line.{fits_line};
 
 use decimal::put::{put_all, put_byte, put_number};
-use files::given::{Case, is_refused, say_refused};
+use files::given::{Case, say_refused};
 use std::process::ExitCode;
 use std::rt::Runtime;
 use table::{Mode, Refusal, Table};
@@ -92,8 +92,9 @@ fn is_answered<R: Runtime>(rt: &R) -> bool {
     let Case::Read(answer) = case else {
         return false;
     };
-    if is_refused(answer) {
-        return say_refused(rt, answer);
+    let said = say_refused(rt, answer);
+    if said.refused {
+        return said.written;
     }
     let mut room = [0u8; ROOM];
     let n = line_of(t, &mut room);

@@ -11,7 +11,7 @@ ghost use Rattle.files.specs.Turns.{Lent};
 ghost use Rattle.night.specs.Pieces.{standing, piece_of, turn_of, NightReady};
 
 use files::How;
-use files::given::{Case, is_failed, is_refused, say_refused};
+use files::given::{Case, is_failed, say_refused};
 use files::pieces::{PIECE, ROOM, answer_last};
 use lines::{BATCH, Held, LONGEST_ANSWER, smaller_of};
 use run::Run;
@@ -136,8 +136,9 @@ fn is_answered<R: Runtime>(rt: &R) -> bool {
     let Case::Read(answer) = case else {
         return false;
     };
-    if is_refused(answer) {
-        return say_refused(rt, answer);
+    let said = say_refused(rt, answer);
+    if said.refused {
+        return said.written;
     }
     let started = scheduler::start(t);
     let run = started.run;

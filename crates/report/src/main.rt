@@ -15,7 +15,7 @@ ghost use Rattle.report.specs.Pieces.{standing, AfterSome, Reads, ReadsSome, pie
 use count::{SERVER_COUNTS, TASK_COUNTS};
 use events::{LINE_VALUES, TOLD_VALUES};
 use files::How;
-use files::given::{Case, is_refused, say_refused};
+use files::given::{Case, say_refused};
 use lines::Held;
 use page::ROOM;
 use run::{FOUND_VALUES, Run};
@@ -193,8 +193,9 @@ fn is_answered<R: Runtime>(rt: &R) -> bool {
     let Case::Read(answer) = case else {
         return false;
     };
-    if is_refused(answer) {
-        return say_refused(rt, answer);
+    let said = say_refused(rt, answer);
+    if said.refused {
+        return said.written;
     }
     let started = scheduler::start(t);
     let run = started.run;

@@ -5,7 +5,7 @@
 ghost use Rattle.std.specs.Prelude.{◌≡◌, ◌≤◌, length, take};
 ghost use Rattle.rewrite.specs.Rewritten.{rewritten};
 
-use files::given::{Case, is_refused, say_refused};
+use files::given::{Case, say_refused};
 use std::process::ExitCode;
 use std::rt::Runtime;
 use table::Table;
@@ -44,8 +44,9 @@ fn is_answered<R: Runtime>(rt: &R) -> bool {
     let Case::Read(answer) = case else {
         return false;
     };
-    if is_refused(answer) {
-        return say_refused(rt, answer);
+    let said = say_refused(rt, answer);
+    if said.refused {
+        return said.written;
     }
     let mut room = [0u8; LONGEST_TEXT];
     let n = text_of(t, &mut room);

@@ -11,7 +11,7 @@ ghost use Rattle.table.specs.Rules.{table_keeps};
 ghost use Rattle.verdicts.specs.Page.{verdict_word, row_line, page};
 
 use decimal::put::{put_all, put_byte, put_number};
-use files::given::{Case, is_refused, say_refused};
+use files::given::{Case, say_refused};
 use std::process::ExitCode;
 use std::rt::Runtime;
 use table::Table;
@@ -89,8 +89,9 @@ fn is_answered<R: Runtime>(rt: &R) -> bool {
     let Case::Read(answer) = case else {
         return false;
     };
-    if is_refused(answer) {
-        return say_refused(rt, answer);
+    let said = say_refused(rt, answer);
+    if said.refused {
+        return said.written;
     }
     let mut room = [0u8; ROOM];
     let n = put_page(t, &mut room);

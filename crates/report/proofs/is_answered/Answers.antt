@@ -53,12 +53,12 @@ begun g d a e f b p h q =
 
 pub count_all-read-requires : goal.count_all-read-requires
 count_all-read-requires g c =
-    begun c.take_table-given.result c.take_table-given.ensures c.in-Read.answer c.in-Read.is (sym c.if-is_refused.ensures)
+    begun c.take_table-given.result c.take_table-given.ensures c.in-Read.answer c.in-Read.is (sym c.say_refused-said.ensures.refused ∙ c.if-said.false)
     c.start-started.result c.start-started.ensures c.no_line-held.result c.no_line-held.ensures
 
 pub put_report-n-requires-clause-after_some : goal.put_report-n-requires-clause-after_some
 put_report-n-requires-clause-after_some g c =
     some_after _
-    (begun c.take_table-given.result c.take_table-given.ensures c.in-Read.answer c.in-Read.is (sym c.if-is_refused.ensures)
+    (begun c.take_table-given.result c.take_table-given.ensures c.in-Read.answer c.in-Read.is (sym c.say_refused-said.ensures.refused ∙ c.if-said.false)
     c.start-started.result c.start-started.ensures c.no_line-held.result c.no_line-held.ensures)
     c.count_all-read.ensures
