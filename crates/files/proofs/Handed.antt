@@ -1,14 +1,15 @@
 -- A table that is given as taken keeps the rules, whatever the reads answered. Assumes nothing.
 use mathlib.Core.Path.{◌≡◌, refl, sym, ap, ◌∙◌}
-use mathlib.Core.Bool.{true}
+use mathlib.Core.Bool.{true, false}
 use Rattle.laws.proofs.Choice.{clash}
 use Rattle.table.specs.declared.Table.{Table}
 use Rattle.table.specs.Rows.{no_table}
 use Rattle.table.specs.Rules.{table_keeps}
+use Rattle.table.specs.Inner.{Sized}
 use Rattle.text.specs.declared.Reading.{Reading}
-use Rattle.text.specs.declared.Reading.TheVariants.{Taken, Equal}
+use Rattle.text.specs.declared.Reading.TheVariants.{Taken, Refused, Equal}
 use Rattle.text.specs.Read.{read, shown}
-use Rattle.text.proofs.RoundTrip.{read_keeps}
+use Rattle.text.proofs.RoundTrip.{read_keeps, read_sized}
 use Rattle.files.specs.declared.How.{How}
 use Rattle.files.specs.declared.How.TheVariants.{On, End, Failed}
 use Rattle.files.specs.declared.given.Case.{Case}
@@ -36,3 +37,17 @@ given_keeps g h a e t =
     rw h.given
     (taken_given (λ (x : Table). table_keeps x ≡ true) h.how d.answer no_table d.table (read_keeps h.text) a
     (sym (ap (λ (x : Given). x.case) h.given) ∙ e) t)
+
+-- Its arrays have the lengths of every table that code holds.
+pub given_sized : (g : Given) → Handed g → (a : Reading) → g.case ≡ Answer a → a ≡ Taken → Sized g.table
+given_sized g h a e t =
+    let d = shown (read h.text) in
+    rw h.given
+    (taken_given Sized h.how d.answer no_table d.table (read_sized h.text) a
+    (sym (ap (λ (x : Given). x.case) h.given) ∙ e) t)
+
+-- What is read and not refused is taken.
+pub not_refused : (a : Reading) → is_refused a ≡ false → a ≡ Taken
+not_refused Taken e = refl
+not_refused (Refused why line field) e = cc
+not_refused (Equal first second) e = cc

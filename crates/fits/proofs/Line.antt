@@ -69,10 +69,10 @@ line_short t = go (fits_of t) (fits_is t)
   where
     go : (a : Fits) → Answers t a → length (fits_line a) ≤ 9
     go a (unsound e) = no_short 13 (omega arith)
-    go a (none e f) = yes_short
+    go a (none e f) = yes-short
       where
-        yes_short : length (fits_line Yes) ≤ 9
-        yes_short = rw (← yes_line) (omega arith)
+        yes-short : length (fits_line Yes) ≤ 9
+        yes-short = rw (← yes_line) (omega arith)
     go a (least_miss m i l) =
         let s = ((misses_exactly t m i).0 l.missed).0 in
         miss_short m i (omega (arith, s.there, few_servers t s.keeps))

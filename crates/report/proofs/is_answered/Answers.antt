@@ -15,24 +15,10 @@ use Rattle.run.proofs.Refused.{start_run}
 use Rattle.files.specs.declared.given.Case.TheVariants.{Read as Answer}
 use Rattle.files.specs.declared.given.Given.{Given}
 use Rattle.files.specs.Handed.{is_refused, Handed}
-use Rattle.files.proofs.Handed.{taken_given, given_keeps}
+use Rattle.files.proofs.Handed.{given_keeps, given_sized, not_refused}
 use Rattle.report.specs.Pieces.{AfterSome}
 use Rattle.report.proofs.Pieces.{start_after, some_after}
 use Rattle.report.proofs.is_answered.Goals as goal
-
--- what is not refused was taken
-taken : (a : Reading) → is_refused a ≡ false → a ≡ Taken
-taken Taken e = refl
-taken (Refused why line field) e = cc
-taken (Equal first second) e = cc
-
--- the arrays of a table that was taken have the lengths of every table that code holds
-sized : (g : Given) → Handed g → (a : Reading) → g.case ≡ Answer a → a ≡ Taken → Sized g.table
-sized g h a e t =
-    let d = shown (read h.text) in
-    rw h.given
-    (taken_given Sized h.how d.answer no_table d.table (read_sized h.text) a
-    (sym (ap (λ (x : Given). x.case) h.given) ∙ e) t)
 
 -- what stands at the start
 begun : (g : Given) → Handed g → (a : Reading) → g.case ≡ Answer a → is_refused a ≡ false →
@@ -45,10 +31,10 @@ begun : (g : Given) → Handed g → (a : Reading) → g.case ≡ Answer a → i
       modes = replicate 3 0;
     })
 begun g d a e f b p h q =
-    let t = taken a f in (
+    let t = not_refused a f in (
       g.table,
       [],
-      rw (p, start_run g.table, q) (start_after g.table (sized g d a e t) (given_keeps g d a e t)),
+      rw (p, start_run g.table, q) (start_after g.table (given_sized g d a e t) (given_keeps g d a e t)),
     )
 
 pub count_all-read-requires : goal.count_all-read-requires
