@@ -1,7 +1,6 @@
 -- `fits::line_of` meets its contract: the room is enough for every answer. Assumes nothing.
 use mathlib.Core.Path.{ap}
 use native.Mathlib.Omega.{arith}
-use borrow.Author.Rules.{rules}
 use Rattle.decimal.proofs.Room.{put_as, put_front}
 use Rattle.verdict.specs.Fits.{fits_of}
 use Rattle.fits.specs.Line.{fits_line}

@@ -1,5 +1,4 @@
 -- `fits::put_answer` meets its contract: each case of the answer is its line. Assumes nothing.
-use borrow.Author.Rules.{rules}
 use Rattle.decimal.proofs.Room.{put_as}
 use Rattle.fits.proofs.Line.{yes_line}
 use Rattle.fits.proofs.put_answer.Goals as goal

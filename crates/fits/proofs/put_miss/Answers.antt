@@ -1,5 +1,4 @@
 -- `fits::put_miss` meets its contract: the line field by field. Assumes nothing.
-use borrow.Author.Rules.{rules}
 use Rattle.fits.proofs.Line.{miss_put}
 use Rattle.fits.proofs.put_miss.Goals as goal
 

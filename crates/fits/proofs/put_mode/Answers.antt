@@ -1,5 +1,4 @@
 -- `fits::put_mode` meets its contract: each mode is its word. Assumes nothing.
-use borrow.Author.Rules.{rules}
 use Rattle.fits.proofs.put_mode.Goals as goal
 
 pub returns-in-N : goal.returns-in-N

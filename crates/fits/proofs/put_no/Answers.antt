@@ -1,6 +1,5 @@
 -- `fits::put_no` meets its contract: the word, then the number. Assumes nothing.
 use mathlib.Core.Path.{ap}
-use borrow.Author.Rules.{rules}
 use Rattle.decimal.specs.Number.{digits}
 use Rattle.decimal.proofs.Room.{put_as}
 use Rattle.fits.proofs.Line.{no_put}

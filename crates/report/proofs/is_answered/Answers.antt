@@ -1,12 +1,7 @@
 -- `report::is_answered` is safe, and what it begins with stands: a table that was taken keeps the rules,
 -- and zeros are the numbers of a file of which nothing was read. Assumes nothing.
-use Rattle.std.proofs.Common.{◌≡◌, false, [], replicate, refl, sym, ap, ◌∙◌}
-use Rattle.table.specs.Rows.{no_table}
-use Rattle.table.specs.Inner.{Sized}
+use Rattle.std.proofs.Common.{◌≡◌, false, [], replicate, sym, ◌∙◌}
 use Rattle.text.specs.declared.Reading.{Reading}
-use Rattle.text.specs.declared.Reading.TheVariants.{Taken, Refused, Equal}
-use Rattle.text.specs.Read.{read, shown}
-use Rattle.text.proofs.RoundTrip.{read_sized}
 use Rattle.lines.specs.declared.Held.{Held}
 use Rattle.lines.specs.HeldLine.{held_of}
 use Rattle.run.specs.declared.Begun.{Begun}
