@@ -13,6 +13,7 @@ ghost use Rattle.std.specs.Prelude.{◌≡◌, length, if◌then◌else◌};
 ghost use Rattle.std.specs.Process.{exit_status};
 ghost use Rattle.files.specs.Answers.{help_asked, Asked, Called, IsPrefixLen};
 ghost use Rattle.files.specs.Answers.{how_of, Told, Out, First};
+ghost use Rattle.files.specs.Sources.{Opened};
 
 use decimal::is_same;
 use source::Source;
@@ -97,7 +98,9 @@ pub fn called_with<R: Env + Eprint>(rt: &R, words: usize, usage: &str) -> bool
 pub fn open_argument<R: Env + Files + Input + Eprint>(
     rt: &R,
     i: usize,
-) -> Option<Source<R::Reader, R::File>> {
+) -> Option<Source<R::Reader, R::File>>
+    ensures { Opened result }
+{
     let mut word = [0u8; LONGEST_WORD];
     let Ok(n) = rt.arg(i, &mut word) else {
         let _ = eprintln!(rt; "argument: {}", ErrorKind::InvalidFilename);
