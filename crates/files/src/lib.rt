@@ -83,13 +83,16 @@ pub fn asked_for_help<R: Env>(rt: &R) -> bool
 
 // Whether the program was called with this many words, its name among them; if not, how to call it
 // is said.
-pub fn called_with<R: Env + Eprint>(rt: &R, words: usize, usage: &str) -> bool
+pub fn called_with<R: Env + Eprint>(rt: &R, words: usize, usage: &[u8]) -> bool
     ensures { Called words result }
 {
     if word_count(rt) == words {
         return true;
     }
-    let _ = eprintln!(rt; "usage: {usage}");
+    let _ = match str::from_utf8(usage) {
+        Ok(text) => eprintln!(rt; "usage: {text}"),
+        Err(_) => eprintln!(rt; "usage: {}", usage.escape_ascii()),
+    };
     false
 }
 

@@ -80,7 +80,7 @@ fn is_answered<R: Runtime>(rt: &R) -> bool {
     if files::asked_for_help(rt) {
         return files::write_out(rt, help);
     }
-    if !files::called_with(rt, 2, "fits TABLE") {
+    if !files::called_with(rt, 2, b"fits TABLE") {
         return false;
     }
     let Some(mut source) = files::open_argument(rt, 1) else {

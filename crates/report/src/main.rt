@@ -174,7 +174,7 @@ fn is_answered<R: Runtime>(rt: &R) -> bool {
     if files::asked_for_help(rt) {
         return files::write_out(rt, help);
     }
-    if !files::called_with(rt, 3, "report TABLE EVENTS") {
+    if !files::called_with(rt, 3, b"report TABLE EVENTS") {
         return false;
     }
     let Some(mut table) = files::open_argument(rt, 1) else {

@@ -164,7 +164,7 @@ fn take_all<R: Print + Eprint, S: Read>(rt: &R, source: &mut S, held: &mut [u8])
 
 // Whether everything was answered; where not, why was said.
 fn is_answered<R: Runtime>(rt: &R) -> bool {
-    if !files::called_with(rt, 2, "states FILE") {
+    if !files::called_with(rt, 2, b"states FILE") {
         return false;
     }
     let Some(mut source) = files::open_argument(rt, 1) else {
