@@ -1,5 +1,6 @@
 -- A short line says a release, a tick or neither, by its letter and its digit, and its two numbers
 -- are sums and products of these tests: of a letter at most one is true. Assumes nothing.
+use Rattle.std.proofs.Common.{Some}
 use mathlib.Core.Path.{◌≡◌, refl, ap, ◌∙◌}
 use mathlib.Core.Bool.{Bool, true, false, not, ◌&&◌}
 use mathlib.Core.List.{List, [], ◌∷◌}
@@ -12,7 +13,6 @@ use lib.Seq.{sets, drop-cons}
 use borrow.Author.Tests.{eqb-true, eqb-false, eq-eqb, ne_eqb, leb-true, leb-false, le-leb, lt-leb}
 use Rattle.laws.specs.Choice.{every, within, one_if}
 use Rattle.laws.proofs.Choice.{and_left, and_right, or_true_right, within_low, within_high}
-use Rattle.decimal.specs.declared.Number.TheVariants.{Value}
 use Rattle.decimal.specs.Number.{are_digits, number_form, is_number, worth_from, read_number}
 use Rattle.decimal.specs.Lines.{tab}
 use Rattle.events.specs.Values.{line_values}
@@ -58,10 +58,10 @@ short l e =
     }
 
 -- one digit is a number
-one_digit : (d : ℕ) → 48 ≤ d → d ≤ 57 → read_number (d ∷ []) ≡ Value (d - 48)
+one_digit : (d : ℕ) → 48 ≤ d → d ≤ 57 → read_number (d ∷ []) ≡ Some (d - 48)
 unfolding read_number is_number number_form are_digits every worth_from
 one_digit d l h =
-    rw (le-leb 48 d l, le-leb d 57 h, or_true_right (not (eqb d 48)) true refl) (ap Value (zero-add (d - 48)))
+    rw (le-leb 48 d l, le-leb d 57 h, or_true_right (not (eqb d 48)) true refl) (ap Some (zero-add (d - 48)))
 
 short_found : (l : List ℕ) (letter : ℕ) → Short l → get_or l 0 0 ≡ letter → Found l letter (get_or l 2 0 - 48)
 short_found l letter s e =

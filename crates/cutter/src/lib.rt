@@ -14,36 +14,36 @@ ghost use Rattle.lines.specs.HeldLine.{line_in, held_of, too_long};
 ghost use Rattle.lines.specs.Cutting.{cut_of, cut_first};
 ghost use Rattle.cutter.specs.Inner.{is_short};
 
-use decimal::{LINE_FEED, Number};
-use events::{Event, EventLine, LINE_VALUES, Taking};
+use decimal::LINE_FEED;
+use events::{Event, LINE_VALUES};
 use lines::{Cut, Held, LONGEST_EVENT};
 use table::Refusal;
 
 // What a line says, without its line feed: a letter, a tab, and a number after them.
-fn read_event(l: &[u8]) -> EventLine
+fn read_event(l: &[u8]) -> Option<Event>
     ensures { result ≡ event_line l.now }
 {
     if l.len() < 2 {
-        return EventLine::Another;
+        return None;
     }
     if l[1] != b'\t' {
-        return EventLine::Another;
+        return None;
     }
     let letter = l[0];
     let n = decimal::read_number(&l[2..]);
-    let Number::Value(v) = n else {
-        return EventLine::Another;
+    let Some(v) = n else {
+        return None;
     };
     if letter == b'R' {
-        return EventLine::Of(Event::Release(v as usize));
+        return Some(Event::Release(v as usize));
     }
     if letter != b'T' {
-        return EventLine::Another;
+        return None;
     }
     if 1 < v {
-        return EventLine::Another;
+        return None;
     }
-    EventLine::Of(Event::Tick(v == 1))
+    Some(Event::Tick(v == 1))
 }
 
 // A test as a number, as a mark is written.
@@ -57,18 +57,18 @@ fn one_if(holds: bool) -> u64
 }
 
 // A line as its two numbers.
-fn line_values(line: EventLine) -> [u64; LINE_VALUES]
+fn line_values(line: Option<Event>) -> [u64; LINE_VALUES]
     ensures { result ≡ line_values line }
 {
     match line {
-        EventLine::Of(e) => match e {
+        Some(e) => match e {
             Event::Release(k) => [2, k as u64],
             Event::Tick(mark) => {
                 let v = one_if(mark);
                 [1, v]
             }
         },
-        EventLine::Another => [0, 0],
+        None => [0, 0],
     }
 }
 
@@ -124,7 +124,7 @@ fn hold(h: Held, part: &[u8]) -> Held
 }
 
 // What the line that is held says, now that it is closed.
-fn read_held(h: Held) -> EventLine
+fn read_held(h: Held) -> Option<Event>
     ensures { result ≡ event_line (line_in h) }
 {
     let n = h.len;
@@ -132,12 +132,12 @@ fn read_held(h: Held) -> EventLine
     if n <= LONGEST_EVENT {
         return read_event(&bytes[..n]);
     }
-    EventLine::Another
+    None
 }
 
 // What the line that is held and some bytes more say. Where nothing is held, they are read where
 // they stand.
-fn read_line(h: Held, part: &[u8]) -> EventLine
+fn read_line(h: Held, part: &[u8]) -> Option<Event>
     ensures { result ≡ event_line (line_in h ++ part.now) }
 {
     if h.len == 0 {
@@ -235,7 +235,7 @@ fn cut_first(h: Held, input: &[u8], lines: &mut [u64]) -> Cut
         if e == input.len() {
             let held = hold(held, &input[at..]);
             return Cut {
-                answer: Taking::Taken,
+                answer: Ok(()),
                 held,
                 eaten: e,
                 many,
@@ -248,7 +248,7 @@ fn cut_first(h: Held, input: &[u8], lines: &mut [u64]) -> Cut
     }
     let held = hold(held, &input[at..at]);
     Cut {
-        answer: Taking::Taken,
+        answer: Ok(()),
         held,
         eaten: at,
         many,
@@ -264,7 +264,7 @@ pub fn cut_lines(h: Held, input: &[u8], lines: &mut [u64]) -> Cut
     if input.len() == 0 {
         let held = hold(h, input);
         return Cut {
-            answer: Taking::Taken,
+            answer: Ok(()),
             held,
             eaten: 0,
             many: 0,
@@ -272,7 +272,7 @@ pub fn cut_lines(h: Held, input: &[u8], lines: &mut [u64]) -> Cut
     }
     if lines.len() < LINE_VALUES {
         return Cut {
-            answer: Taking::Refused(Refusal::RoomShort),
+            answer: Err(Refusal::RoomShort),
             held: h,
             eaten: 0,
             many: 0,

@@ -1,14 +1,12 @@
 -- Digits in a row, one more at a time, and what they say of the field in which they stand: it is a
 -- number if nothing stands after them and they lead well. Assumes nothing.
 pub mod Fields
-use Rattle.std.specs.Prelude.{if◌then◌else◌}
+use Rattle.std.specs.Prelude.{if◌then◌else◌, None, Option, Some}
 use Rattle.std.proofs.Common.{◌≡◌, ℕ, zero, suc, ◌+◌, ◌-◌, ◌*◌, ◌%◌, ◌^◌, ◌<◌, ◌≤◌, min, Bool, true, false, List, [], ◌∷◌, ◌++◌, length, get_or, take, drop, sym, refl, ap, ◌∙◌, inl, inr, add-zero, mul-le-mul_right, pow-suc, arith, lit<, length-drop, drop_of_length-le, length-take, length-take-le, get_or-drop, get_or-take, take-suc, ne_eqb}
 use native.Mathlib.Nat.{pow-zero, pow-le-pow_right}
 use lib.Arith.{lt_of_le-ne}
 use Rattle.laws.specs.Choice.{within, every}
 use Rattle.laws.proofs.Choice.{clash, and_left, and_right, within_low, within_high, is_within, le_or_lt, is_false}
-use Rattle.decimal.specs.declared.Number.{Number}
-use Rattle.decimal.specs.declared.Number.TheVariants.{Value, Bad}
 use Rattle.decimal.specs.Number.{are_digits, leads_well, number_form, is_number, worth_from, worth, read_number}
 use Rattle.decimal.specs.declared.Digits.{Digits}
 use Rattle.decimal.specs.declared.End.{End}
@@ -95,8 +93,8 @@ digits_read (b ∷ bs) e h =
     (go (leads_well (b ∷ bs)))
   where
     go : (t : Bool) →
-        (if t then Value (worth (b ∷ bs)) else Bad) ≡
-        (if every (true ∷ true ∷ t ∷ []) then Value (worth (b ∷ bs)) else Bad)
+        (if t then Some (worth (b ∷ bs)) else None) ≡
+        (if every (true ∷ true ∷ t ∷ []) then Some (worth (b ∷ bs)) else None)
     go true = refl
     go false = refl
 
@@ -124,13 +122,13 @@ longer_not l k m h g f =
 
 -- no field begins past the end
 pub field_past : (text : List ℕ) (at : ℕ) → length text ≤ at →
-    record { number = Bad; end = record { at = at; more = false } } ≡ field_from text at
+    record { number = None; end = record { at = at; more = false } } ≡ field_from text at
 unfolding field_from first_line split read_number is_number number_form every
 field_past text at h = rw (← end_past text at h, drop_of_length-le text h)
 
 -- bytes, read as their first field
 module _ (s : List ℕ) (f : Field) (r : f ≡ field_from s 0) where
-  pub number_not_all : (f.end.at ≡ length s → ⊥) → Bad ≡ read_number s
+  pub number_not_all : (f.end.at ≡ length s → ⊥) → None ≡ read_number s
   unfolding field_from read_number
   number_not_all h = rw (field_not_all s (λ e. h (ap (λ (x : Field). x.end.at) r ∙ e)))
 
@@ -163,12 +161,12 @@ module _ (text : List ℕ) (at : ℕ) (d : Digits) (w : DigitsFrom text at (min 
   unfolding field_end
   field_long = ap (λ (x : End). x.at) ends_there
 
-  reads : (n : Number) → n ≡ read_number (first_field text at) → record { number = n; end = e } ≡ field_from text at
+  reads : (n : Option ℕ) → n ≡ read_number (first_field text at) → record { number = n; end = e } ≡ field_from text at
   unfolding field_from
   reads n r = rw (r, ends_there)
 
   -- another byte stands after the digits
-  pub field_longer : (e.at ≡ d.end → ⊥) → record { number = Bad; end = e } ≡ field_from text at
+  pub field_longer : (e.at ≡ d.end → ⊥) → record { number = None; end = e } ≡ field_from text at
   unfolding read_number field_end
   field_longer h =
       let m = length (first_field text at) in
@@ -176,7 +174,7 @@ module _ (text : List ℕ) (at : ℕ) (d : Digits) (w : DigitsFrom text at (min 
       let b : d.end < e.at = lt_of_le-ne a (λ p. h (sym p)) in
       let g = field_within text at (omega (arith, w.low, within_text)) in
       let byte = get_or-drop at text (d.end - at) 0 in
-      reads Bad
+      reads None
       (sym
       (rw (
         field_taken text at,
@@ -186,7 +184,7 @@ module _ (text : List ℕ) (at : ℕ) (d : Digits) (w : DigitsFrom text at (min 
       )))
 
   -- none does
-  pub field_whole : (n : Number) → e.at ≡ d.end →
+  pub field_whole : (n : Option ℕ) → e.at ≡ d.end →
       n ≡ as_number d.worth (d.end - at) (get_or text at 0) → record { number = n; end = e } ≡ field_from text at
   field_whole n f r =
       let k = d.end - at in

@@ -1,10 +1,8 @@
 -- Only contracts of inner functions cite this file; a buyer need not read it. It says what one walk
 -- over the digits at a place of a text finds.
 pub mod Fields
-use Rattle.std.specs.Prelude.{◌≡◌, ℕ, ◌+◌, ◌-◌, ◌<◌, ◌≤◌, true, false, not, ◌||◌, List, take, drop, ◌==◌, slice_index, if◌then◌else◌}
+use Rattle.std.specs.Prelude.{◌≡◌, ℕ, ◌+◌, ◌-◌, ◌<◌, ◌≤◌, true, false, not, ◌||◌, List, take, drop, ◌==◌, slice_index, if◌then◌else◌, None, Option, Some}
 use Rattle.laws.specs.Choice.{within}
-use Rattle.decimal.specs.declared.Number.{Number}
-use Rattle.decimal.specs.declared.Number.TheVariants.{Value, Bad}
 use Rattle.decimal.specs.declared.Digits.{Digits}
 use Rattle.decimal.specs.Number.{are_digits, worth}
 
@@ -22,8 +20,8 @@ pub record DigitsFrom (s : List ℕ) (at stop : ℕ) (r : Digits) : Type 0 where
   pub ends : r.end < stop → within 48 57 (slice_index s r.end) ≡ false
 
 -- so many digits, by their worth and the first of them: "no leading zero but in `0`"
-abbrev pub as_number : ℕ → ℕ → ℕ → Number
+abbrev pub as_number : ℕ → ℕ → ℕ → Option ℕ
 as_number worth many first =
-    if many == 0 then Bad
-    else if not (first == 48) || many == 1 then Value worth
-    else Bad
+    if many == 0 then None
+    else if not (first == 48) || many == 1 then Some worth
+    else None

@@ -1,9 +1,7 @@
 -- 01, Tables: "Numbers are decimal, 1 to 11 digits, no sign, no leading zero but in `0`." The form and the worth of a number are
 -- two definitions. Bytes are numbers: `0` is 48, `9` is 57.
-use Rattle.std.specs.Prelude.{ℕ, zero, suc, ◌+◌, ◌-◌, ◌*◌, ◌/◌, ◌%◌, Bool, true, false, not, ◌&&◌, ◌||◌, List, [], ◌∷◌, ◌++◌, length, ◌==◌, nat_lt, slice_index, if◌then◌else◌}
+use Rattle.std.specs.Prelude.{ℕ, zero, suc, ◌+◌, ◌-◌, ◌*◌, ◌/◌, ◌%◌, Bool, true, false, not, ◌&&◌, ◌||◌, List, [], ◌∷◌, ◌++◌, length, ◌==◌, nat_lt, slice_index, if◌then◌else◌, None, Option, Some}
 use Rattle.laws.specs.Choice.{every, within}
-use Rattle.decimal.specs.declared.Number.{Number}
-use Rattle.decimal.specs.declared.Number.TheVariants.{Value, Bad}
 
 -- "decimal", "no sign": each byte is a digit
 unfoldable pub are_digits : List ℕ → Bool
@@ -29,8 +27,8 @@ worth_from v (b ∷ bs) = worth_from (v * 10 + (b - 48)) bs
 abbrev pub worth : List ℕ → ℕ
 worth = worth_from 0
 
-unfoldable pub read_number : List ℕ → Number
-read_number bs = if is_number bs then Value (worth bs) else Bad
+unfoldable pub read_number : List ℕ → Option ℕ
+read_number bs = if is_number bs then Some (worth bs) else None
 
 -- A number as it is written: the last digit stands after those of the tenth part, and a number below 10 is one digit. `digits_in f n`
 -- takes off at most f last digits; n are always enough.

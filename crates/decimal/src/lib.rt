@@ -20,13 +20,6 @@ pub const LINE_FEED: u8 = 10;
 // "1 to 11 digits".
 const LONGEST_NUMBER: usize = 11;
 
-// What some bytes say, read as a number.
-#[derive(Clone, Copy)]
-pub enum Number {
-    Value(u64),
-    Bad,
-}
-
 // Digits in a row: what they are worth, and the place after them.
 #[derive(Clone, Copy)]
 struct Digits {
@@ -41,10 +34,10 @@ pub struct End {
     pub more: bool,
 }
 
-// A field, read as a number.
+// A field, and its number if it is one.
 #[derive(Clone, Copy)]
 pub struct Field {
-    pub number: Number,
+    pub number: Option<u64>,
     pub end: End,
 }
 
@@ -103,19 +96,19 @@ pub fn field_end(text: &[u8], at: usize) -> End
 }
 
 // What so many digits are, by their worth and the first of them. "no leading zero but in `0`"
-fn as_number(worth: u64, many: usize, first: u8) -> Number
+fn as_number(worth: u64, many: usize, first: u8) -> Option<u64>
     ensures { result ≡ as_number worth many first }
 {
     if many == 0 {
-        return Number::Bad;
+        return None;
     }
     if first != b'0' {
-        return Number::Value(worth);
+        return Some(worth);
     }
     if many == 1 {
-        return Number::Value(worth);
+        return Some(worth);
     }
-    Number::Bad
+    None
 }
 
 // That field, read as a number. Its digits are walked once; what stands after them, if anything
@@ -125,29 +118,23 @@ pub fn read_field(text: &[u8], at: usize) -> Field
 {
     if text.len() <= at {
         let end = End { at, more: false };
-        return Field {
-            number: Number::Bad,
-            end,
-        };
+        return Field { number: None, end };
     }
     let d = digits_at(text, at);
     let end = field_end(text, d.end);
     if end.at != d.end {
-        return Field {
-            number: Number::Bad,
-            end,
-        };
+        return Field { number: None, end };
     }
     let number = as_number(d.worth, d.end - at, text[at]);
     Field { number, end }
 }
 
-pub fn read_number(s: &[u8]) -> Number
+pub fn read_number(s: &[u8]) -> Option<u64>
     ensures { result ≡ read_number s.now }
 {
     let f = read_field(s, 0);
     if f.end.at != s.len() {
-        return Number::Bad;
+        return None;
     }
     f.number
 }

@@ -1,5 +1,6 @@
 -- Event lines and what is told to them, as plain numbers: the numbers of a line or of what is told
 -- to it say it again, at any place among others. Assumes nothing.
+use Rattle.std.proofs.Common.{None, Option, Some}
 use mathlib.Core.Path.{◌≡◌, refl, sym, ap, ap₂, ◌∙◌}
 use mathlib.Core.Bool.{true, false}
 use mathlib.Core.List.{List, [], ◌∷◌, ◌++◌, append_assoc, append-nil}
@@ -21,46 +22,45 @@ use Rattle.events.specs.declared.Turn.TheVariants.{Run as Ran, Empty, Idle}
 use Rattle.events.specs.declared.Left.{Left}
 use Rattle.events.specs.declared.Left.TheVariants.{Nobody, Done, Cut}
 use Rattle.events.specs.declared.Event.TheVariants.{Release, Tick}
-use Rattle.events.specs.declared.EventLine.{EventLine}
-use Rattle.events.specs.declared.EventLine.TheVariants.{Of, Another}
 use Rattle.events.specs.declared.Told.{Told}
 use Rattle.events.specs.declared.Told.TheVariants.{No, Released, Ticked}
 use Rattle.events.specs.Values.{line_values, all_line_values, line_said, lines_said, told_values, told_said}
 use Rattle.events.specs.Values.{turn_values, left_values, told_at, all_values, told_put}
+use Rattle.events.specs.declared.Event.{Event}
 
 -- An event line, of its two numbers.
-pub line_length : (l : EventLine) → length (line_values l) ≡ 2
-line_length Another = refl
-line_length (Of (Tick mark)) = refl
-line_length (Of (Release k)) = refl
+pub line_length : (l : Option Event) → length (line_values l) ≡ 2
+line_length None = refl
+line_length (Some (Tick mark)) = refl
+line_length (Some (Release k)) = refl
 
-pub line_said_lem : (l : EventLine) → line_said (get_or (line_values l) 0 0) (get_or (line_values l) 1 0) ≡ l
-line_said_lem Another = refl
-line_said_lem (Of (Tick true)) = refl
-line_said_lem (Of (Tick false)) = refl
-line_said_lem (Of (Release k)) = refl
+pub line_said_lem : (l : Option Event) → line_said (get_or (line_values l) 0 0) (get_or (line_values l) 1 0) ≡ l
+line_said_lem None = refl
+line_said_lem (Some (Tick true)) = refl
+line_said_lem (Some (Tick false)) = refl
+line_said_lem (Some (Release k)) = refl
 
 -- The numbers of some lines, and other numbers behind them.
-line_past : (l : EventLine) (ys : List ℕ) → lines_said (line_values l ++ ys) ≡ l ∷ lines_said ys
+line_past : (l : Option Event) (ys : List ℕ) → lines_said (line_values l ++ ys) ≡ l ∷ lines_said ys
 unfolding lines_said
-line_past Another ys = refl
-line_past (Of (Tick true)) ys = refl
-line_past (Of (Tick false)) ys = refl
-line_past (Of (Release k)) ys = refl
+line_past None ys = refl
+line_past (Some (Tick true)) ys = refl
+line_past (Some (Tick false)) ys = refl
+line_past (Some (Release k)) ys = refl
 
-pub lines_past : (ls : List EventLine) (ys : List ℕ) → lines_said (all_line_values ls ++ ys) ≡ ls ++ lines_said ys
+pub lines_past : (ls : List (Option Event)) (ys : List ℕ) → lines_said (all_line_values ls ++ ys) ≡ ls ++ lines_said ys
 unfolding all_line_values
 lines_past [] ys = refl
 lines_past (l ∷ ls) ys =
     ap lines_said (append_assoc (line_values l) (all_line_values ls) ys)
     ∙ line_past l (all_line_values ls ++ ys)
-    ∙ ap (λ (xs : List EventLine). l ∷ xs) (lines_past ls ys)
+    ∙ ap (λ (xs : List (Option Event)). l ∷ xs) (lines_past ls ys)
 
-pub lines_back : (ls : List EventLine) → lines_said (all_line_values ls) ≡ ls
+pub lines_back : (ls : List (Option Event)) → lines_said (all_line_values ls) ≡ ls
 unfolding lines_said
 lines_back ls = ap lines_said (sym (append-nil (all_line_values ls))) ∙ lines_past ls [] ∙ append-nil ls
 
-pub line_values_length : (ls : List EventLine) → length (all_line_values ls) ≡ 2 * length ls
+pub line_values_length : (ls : List (Option Event)) → length (all_line_values ls) ≡ 2 * length ls
 unfolding all_line_values
 line_values_length [] = refl
 line_values_length (l ∷ ls) =
@@ -74,7 +74,7 @@ lines_length (x ∷ []) = refl
 lines_length (x ∷ (v ∷ xs)) = omega (arith, lines_length xs)
 
 pub line_at_lem : (xs : List ℕ) (i : ℕ) → i < length (lines_said xs) →
-    get_or (lines_said xs) i Another ≡ line_said (get_or xs (2 * i) 0) (get_or xs (2 * i + 1) 0)
+    get_or (lines_said xs) i None ≡ line_said (get_or xs (2 * i) 0) (get_or xs (2 * i + 1) 0)
 unfolding lines_said
 line_at_lem [] i h = absurd (omega arith)
 line_at_lem (x ∷ []) i h = absurd (omega arith)
@@ -195,7 +195,7 @@ told_listed a m ws ls e f g =
     (ap (λ xs. 2 ∷ a.tick.0 ∷ mode_value a.mode ∷ xs)
     (turn_listed a.turn _ ∙ ap (λ xs. turn_values a.turn ++ xs) (left_listed a.left (a.discarded ∷ []))))
 
-pub release_said : (x v : ℕ) → (x ≡ 0 → ⊥) → (x ≡ 1 → ⊥) → Of (Release v) ≡ line_said x v
+pub release_said : (x v : ℕ) → (x ≡ 0 → ⊥) → (x ≡ 1 → ⊥) → Some (Release v) ≡ line_said x v
 release_said zero v h g = absurd (h refl)
 release_said (suc zero) v h g = absurd (g refl)
 release_said (suc (suc x)) v h g = refl

@@ -1,6 +1,6 @@
 -- What an answer says: the paper's number for each case, and what it tells of servers and jobs. The
 -- promises count with these.
-use Rattle.std.specs.Prelude.{ℕ, eqb, if◌then◌else◌}
+use Rattle.std.specs.Prelude.{ℕ, eqb, if◌then◌else◌, Err, Ok, Result}
 use Rattle.table.specs.Refusals.{number_of}
 use Rattle.events.specs.declared.Turn.{Turn}
 use Rattle.events.specs.declared.Turn.TheVariants.{Run as Ran, Empty, Idle}
@@ -8,10 +8,7 @@ use Rattle.events.specs.declared.Left.{Left}
 use Rattle.events.specs.declared.Left.TheVariants.{Nobody, Done, Cut}
 use Rattle.events.specs.declared.Answer.{Answer}
 use Rattle.events.specs.declared.Answer.TheVariants.{Released, Ticked, No}
-use Rattle.events.specs.declared.Starting.{Starting}
-use Rattle.events.specs.declared.Starting.TheVariants.{Started, Refused as Denied}
-use Rattle.events.specs.declared.Taking.{Taking}
-use Rattle.events.specs.declared.Taking.TheVariants.{Taken, Refused}
+use Rattle.table.specs.declared.Refusal.{Refusal}
 
 -- the paper's number for no, and 0 for what is taken
 abbrev pub no_of : Answer → ℕ
@@ -20,14 +17,14 @@ no_of (Ticked a) = 0
 no_of (No why) = number_of why
 
 -- of a start: 0 where it is made
-abbrev pub starting_number : Starting → ℕ
-starting_number Started = 0
-starting_number (Denied why) = number_of why
+abbrev pub starting_number : Result (Unit {0}) Refusal → ℕ
+starting_number (Ok tt) = 0
+starting_number (Err why) = number_of why
 
 -- of many event lines: 0 where the lines are taken
-abbrev pub taking_number : Taking → ℕ
-taking_number Taken = 0
-taking_number (Refused why) = number_of why
+abbrev pub taking_number : Result (Unit {0}) Refusal → ℕ
+taking_number (Ok tt) = 0
+taking_number (Err why) = number_of why
 
 -- 1 where the two rows are one, else 0
 abbrev pub one : ℕ → ℕ → ℕ

@@ -1,7 +1,7 @@
 -- Event lines and what is told to them, as plain numbers: "a definition gives this paper's number
 -- and values for each of its cases." A line is two numbers, and what is told to it nine, so that
 -- many can be lent at once.
-use Rattle.std.specs.Prelude.{Bool, not, List, [], ◌∷◌, ◌++◌, ℕ, zero, suc, ◌+◌, leb, eqb, length, get_or, if◌then◌else◌}
+use Rattle.std.specs.Prelude.{Bool, not, List, [], ◌∷◌, ◌++◌, ℕ, zero, suc, ◌+◌, leb, eqb, length, get_or, if◌then◌else◌, None, Option, Some}
 use Rattle.std.proofs.Math.Seq.{paste}
 use Rattle.table.specs.Rows.{mode_value, mode_said}
 use Rattle.table.specs.Refusals.{number_of}
@@ -10,12 +10,11 @@ use Rattle.events.specs.declared.Turn.TheVariants.{Run as Ran, Empty, Idle}
 use Rattle.events.specs.declared.Left.{Left}
 use Rattle.events.specs.declared.Left.TheVariants.{Nobody, Done, Cut}
 use Rattle.events.specs.declared.Event.TheVariants.{Release, Tick}
-use Rattle.events.specs.declared.EventLine.{EventLine}
-use Rattle.events.specs.declared.EventLine.TheVariants.{Of, Another}
 use Rattle.events.specs.declared.Answer.{Answer}
 use Rattle.events.specs.declared.Answer.TheVariants.{Released, Ticked, No}
 use Rattle.events.specs.declared.Told.{Told}
 use Rattle.events.specs.declared.Told.TheVariants.{No as ToldNo, Released as ToldReleased, Ticked as ToldTicked}
+use Rattle.events.specs.declared.Event.{Event}
 
 -- what an answer tells
 abbrev pub told_of : Answer → Told
@@ -27,24 +26,24 @@ told_of (No why) = ToldNo (number_of why)
 abbrev pub mark_value : Bool → ℕ
 mark_value mark = if mark then 1 else 0
 
-abbrev pub line_values : EventLine → List ℕ
-line_values Another = 0 ∷ 0 ∷ []
-line_values (Of (Tick mark)) = 1 ∷ mark_value mark ∷ []
-line_values (Of (Release k)) = 2 ∷ k ∷ []
+abbrev pub line_values : Option Event → List ℕ
+line_values None = 0 ∷ 0 ∷ []
+line_values (Some (Tick mark)) = 1 ∷ mark_value mark ∷ []
+line_values (Some (Release k)) = 2 ∷ k ∷ []
 
 -- the numbers of some lines
-unfoldable pub all_line_values : List EventLine → List ℕ
+unfoldable pub all_line_values : List (Option Event) → List ℕ
 all_line_values [] = []
 all_line_values (l ∷ ls) = line_values l ++ all_line_values ls
 
 -- the line that two numbers say: any two say one
-abbrev pub line_said : ℕ → ℕ → EventLine
-line_said zero v = Another
-line_said (suc zero) v = Of (Tick (not (eqb v 0)))
-line_said (suc (suc x)) v = Of (Release v)
+abbrev pub line_said : ℕ → ℕ → Option Event
+line_said zero v = None
+line_said (suc zero) v = Some (Tick (not (eqb v 0)))
+line_said (suc (suc x)) v = Some (Release v)
 
 -- the lines that some numbers say, two each
-unfoldable pub lines_said : List ℕ → List EventLine
+unfoldable pub lines_said : List ℕ → List (Option Event)
 lines_said [] = []
 lines_said (x ∷ []) = []
 lines_said (x ∷ (v ∷ xs)) = line_said x v ∷ lines_said xs

@@ -43,26 +43,12 @@ pub enum Event {
     Tick(bool),
 }
 
-// What is answered to a start.
-#[derive(Clone, Copy)]
-pub enum Starting {
-    Started,
-    Refused(Refusal),
-}
-
 // What is answered to an event.
 #[derive(Clone, Copy)]
 pub enum Answer {
     Released(usize),
     Ticked(TickAnswer),
     No(Refusal),
-}
-
-// What a line of an event file says.
-#[derive(Clone, Copy)]
-pub enum EventLine {
-    Of(Event),
-    Another,
 }
 
 // What an answer tells: the paper's number for no, or the answer itself.
@@ -93,24 +79,17 @@ pub const TOLD_TASK: usize = 7;
 
 pub const TOLD_DISCARDED: usize = 8;
 
-// Whether many event lines were taken, or why none of them was.
-#[derive(Clone, Copy)]
-pub enum Taking {
-    Taken,
-    Refused(Refusal),
-}
-
-// What two numbers say.
-pub fn line_said(x: u64, v: u64) -> EventLine
+// What an event line says by its two numbers: its event, or none where it is another line.
+pub fn line_said(x: u64, v: u64) -> Option<Event>
     ensures { result ≡ line_said x v }
 {
     if x == 0 {
-        return EventLine::Another;
+        return None;
     }
     if x == 1 {
-        return EventLine::Of(Event::Tick(v != 0));
+        return Some(Event::Tick(v != 0));
     }
-    EventLine::Of(Event::Release(v as usize))
+    Some(Event::Release(v as usize))
 }
 
 // What an answer tells.

@@ -1,5 +1,6 @@
 -- The definitions on small runs, computed: a slip in a definition shows here as an equation that fails.
 -- The laws say more than these. Assumes nothing.
+use Rattle.std.proofs.Common.{None, Option, Some}
 use mathlib.Core.Path.{◌≡◌, refl}
 use mathlib.Core.Bool.{true, false}
 use mathlib.Core.List.{List, [], ◌∷◌, map}
@@ -21,8 +22,6 @@ use Rattle.events.specs.declared.Turn.{Turn}
 use Rattle.events.specs.declared.Turn.TheVariants.{Run as Ran, Empty}
 use Rattle.events.specs.Answers.{no_of}
 use Rattle.events.specs.Boxes.{after_in, answers_in}
-use Rattle.queues.specs.declared.Last.{Last}
-use Rattle.queues.specs.declared.Last.TheVariants.{NoJob, Job}
 use Rattle.frametable.specs.declared.FrameTask.{FrameTask}
 use Rattle.frametable.specs.declared.FrameTable.{FrameTable}
 use Rattle.frametable.specs.Rows.{frame_table_of}
@@ -49,7 +48,7 @@ cabinet =
     })
 
 -- a state with these queues of task k and these counts
-unfoldable pub state : ℕ → ℕ → ℕ → Last → ℕ → ℕ → FrameState
+unfoldable pub state : ℕ → ℕ → ℕ → Option ℕ → ℕ → ℕ → FrameState
 state k waiting runs last ticks accepted =
     record {
       waiting = set fresh.waiting k waiting;
@@ -119,7 +118,7 @@ two_releases = refl
 
 -- around the self_test: slot 601 is measuring's, slot 613 alarm sending's again; and round the end
 self_test :
-    map (λ n. answers_in frame_box (run (state 2 1 0 NoJob n 1)) (Tick false ∷ [])) (601 ∷ 607 ∷ 613 ∷ 1201 ∷ [])
+    map (λ n. answers_in frame_box (run (state 2 1 0 None n 1)) (Tick false ∷ [])) (601 ∷ 607 ∷ 613 ∷ 1201 ∷ [])
     ≡ (says 601 (Empty 0) Nobody ∷ []) ∷ (says 607 (Empty 0) Nobody ∷ []) ∷ (says 613 (Ran 1 2) Nobody ∷ [])
     ∷ (says 1201 (Ran 1 2) Nobody ∷ []) ∷ []
 unfolding computed
@@ -130,37 +129,37 @@ numbers : FrameRun → Event → ℕ
 numbers r e = no_of (frame_box.answer r e)
 
 release_refused :
-    numbers (run (state 2 17 0 NoJob 0 17)) (Release 9)
-    ∷ numbers (run (state 2 16 0 NoJob 0 4000000000)) (Release 4)
-    ∷ numbers (run (state 2 16 0 NoJob 0 4000000000)) (Release 2)
-    ∷ numbers (run (state 2 15 0 NoJob 0 4000000000)) (Release 2)
-    ∷ numbers (run (state 2 15 0 NoJob 4000000000 3999999999)) (Release 2)
+    numbers (run (state 2 17 0 None 0 17)) (Release 9)
+    ∷ numbers (run (state 2 16 0 None 0 4000000000)) (Release 4)
+    ∷ numbers (run (state 2 16 0 None 0 4000000000)) (Release 2)
+    ∷ numbers (run (state 2 15 0 None 0 4000000000)) (Release 2)
+    ∷ numbers (run (state 2 15 0 None 4000000000 3999999999)) (Release 2)
     ∷ []
     ≡ 13 ∷ 6 ∷ 8 ∷ 10 ∷ 0 ∷ []
 unfolding numbers computed
 release_refused = refl
 
 tick_refused :
-    numbers (run (state 2 1 2 NoJob 5 1)) (Tick true)
-    ∷ numbers (run (state 2 1 1 NoJob 4000000000 1)) (Tick true)
-    ∷ numbers (run (state 2 1 1 NoJob 4000000000 1)) (Tick false)
-    ∷ numbers (run (state 2 1 1 (Job 2) 3999999999 1)) (Tick true)
+    numbers (run (state 2 1 2 None 5 1)) (Tick true)
+    ∷ numbers (run (state 2 1 1 None 4000000000 1)) (Tick true)
+    ∷ numbers (run (state 2 1 1 None 4000000000 1)) (Tick false)
+    ∷ numbers (run (state 2 1 1 (Some 2) 3999999999 1)) (Tick true)
     ∷ []
     ≡ 13 ∷ 9 ∷ 10 ∷ 0 ∷ []
 unfolding numbers computed
 tick_refused = refl
 
 -- what is refused leaves the state as it was
-as_it_was : waiting_at (frame_box.next (run (state 2 1 0 NoJob 0 1)) (Release 9)).state 2 ≡ 1
+as_it_was : waiting_at (frame_box.next (run (state 2 1 0 None 0 1)) (Release 9)).state 2 ≡ 1
 unfolding computed
 as_it_was = refl
 
 -- The clauses of 13, each at its bound and past it.
 sound_states :
     map (λ s. frame_sound (run s))
-    (state 2 16 0 NoJob 0 16 ∷ state 2 17 0 NoJob 0 17 ∷ state 2 0 1 NoJob 9 5 ∷ state 2 1 1 NoJob 9 5 ∷ state 2 1 2 NoJob 9 5
-    ∷ state 2 1 2 (Job 2) 9 5 ∷ state 2 1 3 (Job 2) 9 5 ∷ state 2 1 0 (Job 2) 9 5 ∷ state 2 1 1 (Job 2) 0 5
-    ∷ state 2 1 1 (Job 4) 9 5 ∷ state 2 5 1 NoJob 9 4 ∷ state 2 0 0 NoJob 4000000001 5 ∷ state 2 0 0 NoJob 9 4000000001 ∷ [])
+    (state 2 16 0 None 0 16 ∷ state 2 17 0 None 0 17 ∷ state 2 0 1 None 9 5 ∷ state 2 1 1 None 9 5 ∷ state 2 1 2 None 9 5
+    ∷ state 2 1 2 (Some 2) 9 5 ∷ state 2 1 3 (Some 2) 9 5 ∷ state 2 1 0 (Some 2) 9 5 ∷ state 2 1 1 (Some 2) 0 5
+    ∷ state 2 1 1 (Some 4) 9 5 ∷ state 2 5 1 None 9 4 ∷ state 2 0 0 None 4000000001 5 ∷ state 2 0 0 None 9 4000000001 ∷ [])
     ≡ true ∷ false ∷ false ∷ true ∷ false ∷ true ∷ false ∷ false ∷ false ∷ false ∷ false ∷ false ∷ false ∷ []
 unfolding computed
 sound_states = refl

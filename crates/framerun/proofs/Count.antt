@@ -1,6 +1,7 @@
 -- Every job that was released was finished or cut, or waits still: in all, counted from the answers
 -- alone, and task by task. Each event keeps the sum; that every list of events then does is a law of
 -- every box (crate events). Assumes nothing.
+use Rattle.std.proofs.Common.{None, Option, Some}
 use mathlib.Core.Path.{◌≡◌, refl, ap, subst, ◌∙◌}
 use mathlib.Core.Bool.{Bool, true, false}
 use mathlib.Core.List.{List, [], ◌∷◌}
@@ -19,8 +20,6 @@ use Rattle.events.specs.Count.{over_all, by_left, release, release_by, released_
 use Rattle.events.specs.Count.{any_cut, cut_in, cut_of, discarded, discarded_in}
 use Rattle.events.specs.Boxes.{after_in, answers_in}
 use Rattle.events.proofs.Count.{LeftBelow, sum_finished, sum_cut, jobs_in}
-use Rattle.queues.specs.declared.Last.{Last}
-use Rattle.queues.specs.declared.Last.TheVariants.{NoJob, Job}
 use Rattle.queues.proofs.Queues.{joined_waiting_lem, joined_sum}
 use Rattle.queues.proofs.Sound.{LastSound}
 use Rattle.frametable.specs.declared.FrameTable.{FrameTable}
@@ -40,12 +39,12 @@ use Rattle.framerun.proofs.Tick.{Shaped, settle_waiting, waiting_after}
 use Rattle.framerun.proofs.Kept.{Good, run_rules, event_keeps, event_table, fresh_keeps}
 
 -- The job that left is of a row in use, so that the rows' counts sum up to what the answer says.
-left_below : (t : FrameTable) (s : FrameState) (mark : Bool) (l : Last) →
+left_below : (t : FrameTable) (s : FrameState) (mark : Bool) (l : Option ℕ) →
     LastSound t.ntasks (queues_of s) s.ticks.0 l → LeftBelow t.ntasks (settle t s mark l).left
 unfolding settle
-left_below t s mark NoJob q = tt
-left_below t s true (Job j) q = q.below
-left_below t s false (Job j) q =
+left_below t s mark None q = tt
+left_below t s true (Some j) q = q.below
+left_below t s false (Some j) q =
     if_ind
     (λ (z : Settled). LeftBelow t.ntasks z.left)
     (eqb (runs_at s j) (frame_limit_at t j))

@@ -1,6 +1,7 @@
 -- Soundness is kept: a fresh run of a table that keeps the rules is sound, and a release or a tick
 -- that is taken leaves a sound state, of the same shape and with the same table. So every state that a
 -- run hands out may be handed in again. Assumes nothing.
+use Rattle.std.proofs.Common.{Option}
 use mathlib.Core.Path.{◌≡◌, refl, ap, ◌∙◌}
 use mathlib.Core.Bool.{Bool, true}
 use mathlib.Core.List.{List}
@@ -15,7 +16,6 @@ use Rattle.events.specs.declared.Turn.{Turn}
 use Rattle.events.specs.declared.Turn.TheVariants.{Run as Ran, Empty, Idle}
 use Rattle.events.specs.declared.Event.{Event}
 use Rattle.events.specs.declared.Event.TheVariants.{Release, Tick}
-use Rattle.events.specs.declared.EventLine.{EventLine}
 use Rattle.events.specs.Answers.{ran}
 use Rattle.events.specs.Boxes.{after_in, after_lines_in}
 use Rattle.events.proofs.Answers.{one_same}
@@ -195,7 +195,7 @@ pub reached_sound : (t : FrameTable) (es : List Event) → FrameSized t → fram
     Good (after_in frame_box (fresh_frame t) es)
 reached_sound t es z e = after_keeps frame_box Good event_keeps (fresh_frame t) es (fresh_keeps t z e)
 
-pub frame_lines_keep : (r : FrameRun) (ls : List EventLine) → FrameShaped r → frame_sound r ≡ true →
+pub frame_lines_keep : (r : FrameRun) (ls : List (Option Event)) → FrameShaped r → frame_sound r ≡ true →
     FrameShaped (after_lines_in frame_box r ls) × (frame_sound (after_lines_in frame_box r ls) ≡ true)
 frame_lines_keep r ls h q = lines_keep frame_box Good event_keeps r ls (h, q)
 

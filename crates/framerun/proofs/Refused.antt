@@ -1,6 +1,7 @@
 -- "Refusals: 6, 8, 9, 10 and 13 keep their order", each given exactly in its case, "state as it was".
 -- The tests stand in that order in the definitions, and each answer is the first that fails. Assumes
 -- nothing.
+use Rattle.std.proofs.Common.{None, Option}
 use mathlib.Core.Path.{ap, ◌≡◌, refl, subst}
 use mathlib.Core.Bool.{Bool, true, false}
 use mathlib.Core.List.{[], ◌∷◌}
@@ -15,8 +16,6 @@ use Rattle.events.specs.declared.Event.TheVariants.{Release, Tick}
 use Rattle.events.specs.declared.Answer.TheVariants.{Released, Ticked, No}
 use Rattle.events.specs.Answers.{no_of, starting_number}
 use Rattle.events.proofs.Answers.{holds_iff, Given}
-use Rattle.queues.specs.declared.Last.{Last}
-use Rattle.queues.specs.declared.Last.TheVariants.{NoJob}
 use Rattle.queues.proofs.Queues.{no_job}
 use Rattle.frametable.specs.declared.FrameTable.{FrameTable}
 use Rattle.frametable.specs.Rules.{frame_table_keeps}
@@ -117,7 +116,7 @@ module _ (r : FrameRun) (k : ℕ) where
 
 -- The same for a tick.
 module _ (r : FrameRun) (mark : Bool) where
-  abbrev last : Last
+  abbrev last : Option ℕ
   last = r.state.last
 
   abbrev ticks : ℕ
@@ -125,7 +124,7 @@ module _ (r : FrameRun) (mark : Bool) where
 
   -- "mark 1, but no tick was taken yet or the last one ran no job"
   abbrev pub NoJobRan : Type 0
-  NoJobRan = (mark ≡ true) × (last ≡ NoJob)
+  NoJobRan = (mark ≡ true) × (last ≡ None)
 
   abbrev pub TickCase : ℕ → Type 0
   TickCase =

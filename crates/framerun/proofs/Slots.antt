@@ -1,5 +1,6 @@
 -- The taken ticks of a frame box are given slot after slot, as the frame has them, whatever was sent:
 -- so as many of them as the frame has in as many slots in a row. Assumes nothing.
+use Rattle.std.proofs.Common.{None, Option, Some}
 use mathlib.Core.Path.{◌≡◌, refl, sym, ap, subst, ◌∙◌}
 use mathlib.Core.Bool.{Bool}
 use mathlib.Core.List.{List, [], ◌∷◌}
@@ -9,8 +10,6 @@ use native.Mathlib.Nat.{add-zero}
 use lib.Dec.{eqb}
 use lib.ListN.{length, take, drop, length-drop}
 use lib.Seq.{length-take-le}
-use Rattle.laws.specs.declared.Found.{Found}
-use Rattle.laws.specs.declared.Found.TheVariants.{At, Nothing}
 use Rattle.laws.specs.Choice.{one_if}
 use Rattle.laws.specs.Rows.{sum_below}
 use Rattle.laws.proofs.Rows.{sum_cong}
@@ -44,9 +43,9 @@ turn_owner : (t : FrameTable) (s : FrameState) (p : ℕ) → charged (turn_at t 
 unfolding turn_at
 turn_owner t s p = go (highest_task t s (owner_at s.ticks.0))
   where
-    go : (a : Found) → charged (turn_of (owner_at s.ticks.0) a) p ≡ one_if (eqb (owner_at s.ticks.0) p)
-    go (At k) = refl
-    go Nothing = refl
+    go : (a : Option ℕ) → charged (turn_of (owner_at s.ticks.0) a) p ≡ one_if (eqb (owner_at s.ticks.0) p)
+    go (Some k) = refl
+    go None = refl
 
 tick_owner : (t : FrameTable) (s : FrameState) (mark : Bool) →
     ((tick_taken t s mark).answer.tick.0 ≡ s.ticks.0) ×

@@ -1,5 +1,6 @@
 -- One tick of a frame box: what the mark leaves of the queues, whose slot it is, and whose job runs.
 -- The queues' part is crate queues'. Assumes nothing.
+use Rattle.std.proofs.Common.{None, Option, Some}
 use mathlib.Core.Path.{◌≡◌, refl, ap, ◌∙◌}
 use mathlib.Core.Bool.{Bool, true, false, ◌&&◌}
 use mathlib.Core.Logic.{◌⊎◌, inl, inr, ◌↔◌}
@@ -8,15 +9,11 @@ use native.Mathlib.Omega.{arith}
 use lib.Dec.{eqb}
 use lib.ListN.{length, length-set}
 use borrow.Author.Tests.{ltb-true, lt-ltb, eqb-true, eq-eqb, eqb-false}
-use Rattle.laws.specs.declared.Found.{Found}
-use Rattle.laws.specs.declared.Found.TheVariants.{At, Nothing}
 use Rattle.laws.proofs.Choice.{clash, if_ind, and_left, and_right, and_true}
 use Rattle.laws.proofs.Highest.{highest_at, highest_none}
 use Rattle.slots.specs.Frame.{owner_at}
 use Rattle.events.specs.Answers.{ran, charged, finished_by, cut_by}
 use Rattle.events.proofs.Answers.{one_same, one_eq, same_or_not}
-use Rattle.queues.specs.declared.Last.{Last}
-use Rattle.queues.specs.declared.Last.TheVariants.{NoJob, Job}
 use Rattle.queues.specs.Queues.{waits_in, turn_of, is_last}
 use Rattle.queues.proofs.Queues.{front_gone_lem, front_ran_lem}
 use Rattle.queues.proofs.Sound.{LastSound, JobSound, JudgedQueue, stays_judged, other_below, within_limit, gone_judged}
@@ -55,24 +52,24 @@ gone_alike s k =
       runs = length-set s.runs k _;
     }
 
-pub settle_alike : (t : FrameTable) (s : FrameState) (mark : Bool) (l : Last) → Alike s (settle t s mark l).state
+pub settle_alike : (t : FrameTable) (s : FrameState) (mark : Bool) (l : Option ℕ) → Alike s (settle t s mark l).state
 unfolding settle
-settle_alike t s mark NoJob = alike s
-settle_alike t s true (Job k) = gone_alike s k
-settle_alike t s false (Job k) =
+settle_alike t s mark None = alike s
+settle_alike t s true (Some k) = gone_alike s k
+settle_alike t s false (Some k) =
     if_ind (λ (z : Settled). Alike s z.state) (eqb (runs_at s k) (frame_limit_at t k)) (λ e. gone_alike s k) (λ e. alike s)
 
 -- What waited of a task waits still, or left.
-pub settle_waiting : (t : FrameTable) (s : FrameState) (mark : Bool) (l : Last) → t.ntasks ≤ 64 → Shaped s →
+pub settle_waiting : (t : FrameTable) (s : FrameState) (mark : Bool) (l : Option ℕ) → t.ntasks ≤ 64 → Shaped s →
     LastSound t.ntasks (queues_of s) s.ticks.0 l → (k : ℕ) →
     waiting_at (settle t s mark l).state k +
     (finished_by (settle t s mark l).left k + cut_by (settle t s mark l).left k)
     ≡ waiting_at s k
 unfolding settle
-settle_waiting t s mark NoJob many h q k = omega arith
-settle_waiting t s true (Job j) many h q k =
+settle_waiting t s mark None many h q k = omega arith
+settle_waiting t s true (Some j) many h q k =
     omega (arith, front_gone_lem (queues_of s) j k (omega (arith, h.waiting, q.below)) q.waits)
-settle_waiting t s false (Job j) many h q k =
+settle_waiting t s false (Some j) many h q k =
     if_ind
     (λ (z : Settled). waiting_at z.state k + (finished_by z.left k + cut_by z.left k) ≡ waiting_at s k)
     (eqb (runs_at s j) (frame_limit_at t j))
@@ -91,7 +88,7 @@ module _ (t : FrameTable) (s : FrameState) (rules : FrameTableRules t) (h : Shap
       (other_below (frame_limit_at t k) (waiting_at s k) (runs_at s k) (is_last s.last k) (f.tasks k l) n)
 
   -- the row of task k, where the front job of task j leaves
-  gone_row : (j k : ℕ) → s.last ≡ Job j → j < t.ntasks → k < t.ntasks → (j ≡ k) ⊎ (j ≡ k → ⊥) →
+  gone_row : (j k : ℕ) → s.last ≡ Some j → j < t.ntasks → k < t.ntasks → (j ≡ k) ⊎ (j ≡ k → ⊥) →
       JudgedRow t (without_front s j) k
   gone_row j k e b l (inl q) =
       gone_judged (queues_of s) j k (frame_limit_at t k) (omega (arith, rules.tasks_high, h.waiting))
@@ -100,7 +97,7 @@ module _ (t : FrameTable) (s : FrameState) (rules : FrameTableRules t) (h : Shap
       other_judged (queues_of s) j k (frame_limit_at t k) n (other_stays k l (λ p. n (eqb-true j k (rw e at p))))
 
   -- the row of task k, where the last-run job, of task j, is not at its limit
-  stay_row : (j k : ℕ) → s.last ≡ Job j → JobSound t.ntasks (queues_of s) s.ticks.0 j → k < t.ntasks →
+  stay_row : (j k : ℕ) → s.last ≡ Some j → JobSound t.ntasks (queues_of s) s.ticks.0 j → k < t.ntasks →
       eqb (runs_at s j) (frame_limit_at t j) ≡ false → (j ≡ k) ⊎ (j ≡ k → ⊥) → JudgedRow t s k
   stay_row j k e b l n (inl q) =
       stays_judged (frame_limit_at t k) (waiting_at s k) (runs_at s k) (is_last s.last k) (f.tasks k l)
@@ -113,13 +110,13 @@ module _ (t : FrameTable) (s : FrameState) (rules : FrameTableRules t) (h : Shap
       below a b p q = omega arith
   stay_row j k e b l n (inr m) = other_stays k l (λ p. m (eqb-true j k (rw e at p)))
 
-  pub settled_row : (mark : Bool) (last : Last) → s.last ≡ last →
+  pub settled_row : (mark : Bool) (last : Option ℕ) → s.last ≡ last →
       LastSound t.ntasks (queues_of s) s.ticks.0 last → (k : ℕ) → k < t.ntasks →
       JudgedRow t (settle t s mark last).state k
   unfolding settle
-  settled_row mark NoJob e q k l = other_stays k l (λ p. clash false (rw e at p) refl)
-  settled_row true (Job j) e q k l = gone_row j k e q.below l (same_or_not j k)
-  settled_row false (Job j) e q k l =
+  settled_row mark None e q k l = other_stays k l (λ p. clash false (rw e at p) refl)
+  settled_row true (Some j) e q k l = gone_row j k e q.below l (same_or_not j k)
+  settled_row false (Some j) e q k l =
       if_ind
       (λ (z : Settled). JudgedRow t z.state k)
       (eqb (runs_at s j) (frame_limit_at t j))
@@ -132,21 +129,21 @@ pub charged_owner : (t : FrameTable) (s : FrameState) (p : ℕ) →
 unfolding turn_at
 charged_owner t s p = go (highest_task t s (owner_at s.ticks.0))
   where
-    go : (a : Found) → (charged (turn_of (owner_at s.ticks.0) a) p ≡ 1) ↔ (owner_at s.ticks.0 ≡ p)
-    go (At k) = (one_eq (owner_at s.ticks.0) p, λ e. rw e (one_same p))
-    go Nothing = (one_eq (owner_at s.ticks.0) p, λ e. rw e (one_same p))
+    go : (a : Option ℕ) → (charged (turn_of (owner_at s.ticks.0) a) p ≡ 1) ↔ (owner_at s.ticks.0 ≡ p)
+    go (Some k) = (one_eq (owner_at s.ticks.0) p, λ e. rw e (one_same p))
+    go None = (one_eq (owner_at s.ticks.0) p, λ e. rw e (one_same p))
 
 -- The front job of task k runs: k is a task of the slot's partition with a waiting job, and no such
 -- task stands above it.
 pub record RunsFront (t : FrameTable) (s : FrameState) (k : ℕ) : Type 0 where
-  pub found : highest_task t s (owner_at s.ticks.0) ≡ At k
+  pub found : highest_task t s (owner_at s.ticks.0) ≡ Some k
   pub below : k < t.ntasks
   pub waits : 0 < waiting_at s k
   pub belongs : partition_at t k ≡ owner_at s.ticks.0
   pub top : (j : ℕ) → j < t.ntasks → 0 < waiting_at s j → partition_at t j ≡ owner_at s.ticks.0 →
       frame_priority_at t j ≤ frame_priority_at t k
 
-pub found_front : (t : FrameTable) (s : FrameState) (k : ℕ) → highest_task t s (owner_at s.ticks.0) ≡ At k →
+pub found_front : (t : FrameTable) (s : FrameState) (k : ℕ) → highest_task t s (owner_at s.ticks.0) ≡ Some k →
     RunsFront t s k
 unfolding highest_task
 found_front t s k e =
@@ -166,7 +163,7 @@ found_front t s k e =
     }
 
 -- a partition without a waiting job has no such task, and the other way round
-pub none_waits : (t : FrameTable) (s : FrameState) (p : ℕ) → highest_task t s p ≡ Nothing → (k : ℕ) → k < t.ntasks →
+pub none_waits : (t : FrameTable) (s : FrameState) (p : ℕ) → highest_task t s p ≡ None → (k : ℕ) → k < t.ntasks →
     partition_at t k ≡ p → 0 < waiting_at s k → ⊥
 unfolding highest_task
 none_waits t s p e k l o w =
@@ -179,10 +176,10 @@ pub ran_front : (t : FrameTable) (s : FrameState) (k : ℕ) → ran (turn_at t s
 unfolding turn_at
 ran_front t s k = go (highest_task t s (owner_at s.ticks.0)) refl
   where
-    go : (a : Found) → highest_task t s (owner_at s.ticks.0) ≡ a →
+    go : (a : Option ℕ) → highest_task t s (owner_at s.ticks.0) ≡ a →
         ran (turn_of (owner_at s.ticks.0) a) k ≡ 1 → RunsFront t s k
-    go (At j) e r = found_front t s k (e ∙ ap At (one_eq j k r))
-    go Nothing e r = absurd (omega arith)
+    go (Some j) e r = found_front t s k (e ∙ ap Some (one_eq j k r))
+    go None e r = absurd (omega arith)
 
 -- What the tick leaves of the counts.
 pub waiting_after : (t : FrameTable) (s : FrameState) (mark : Bool) (k : ℕ) →

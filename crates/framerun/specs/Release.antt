@@ -1,10 +1,9 @@
 -- A fresh start and a release, with what is refused: "Refusals: 6, 8, 9, 10 and 13 keep their order."
-use Rattle.std.specs.Prelude.{ℕ, ◌+◌, ltb}
+use Rattle.std.specs.Prelude.{ℕ, ◌+◌, ltb, Err, Ok}
 use Rattle.laws.specs.Choice.{unless◌say◌else◌}
 use Rattle.table.specs.declared.Refusal.{Refusal}
 use Rattle.table.specs.declared.Refusal.TheVariants.{NoTask, QueueFull, CountSpent, Unsound}
 use Rattle.events.specs.declared.Answer.TheVariants.{Released, No}
-use Rattle.events.specs.declared.Starting.TheVariants.{Started, Refused}
 use Rattle.queues.specs.Queues.{joined}
 use Rattle.frametable.specs.declared.FrameTable.{FrameTable}
 use Rattle.frametable.specs.Rules.{frame_table_keeps}
@@ -27,8 +26,8 @@ fresh_frame t = record { table = t; state = fresh }
 -- was, beside a fresh state.
 unfoldable pub start_of : FrameTable → FrameBegun
 start_of t =
-    unless frame_table_keeps t say record { answer = Refused Unsound; run = fresh_frame t }
-    else record { answer = Started; run = fresh_frame t }
+    unless frame_table_keeps t say record { answer = Err Unsound; run = fresh_frame t }
+    else record { answer = Ok tt; run = fresh_frame t }
 
 -- "A release adds one job at the back of its task's queue; releases are never merged."
 abbrev pub with_job : FrameState → ℕ → FrameState

@@ -1,8 +1,6 @@
 -- A frame box's state: its queues, a state with some of its parts changed, and a fresh one.
-use Rattle.std.specs.Prelude.{ℕ}
+use Rattle.std.specs.Prelude.{ℕ, None, Option}
 use Rattle.units.specs.declared.Ticks.{Ticks}
-use Rattle.queues.specs.declared.Last.{Last}
-use Rattle.queues.specs.declared.Last.TheVariants.{NoJob}
 use Rattle.queues.specs.Queues.{Queues, waiting_in, runs_in, no_jobs}
 use Rattle.framerun.specs.declared.FrameState.{FrameState}
 
@@ -21,7 +19,7 @@ abbrev pub with_queues : FrameState → Queues → FrameState
 with_queues s q =
     record { waiting = q.waiting; runs = q.runs; last = s.last; ticks = s.ticks; accepted = s.accepted }
 
-abbrev pub with_last : FrameState → Last → FrameState
+abbrev pub with_last : FrameState → Option ℕ → FrameState
 with_last s l =
     record { waiting = s.waiting; runs = s.runs; last = l; ticks = s.ticks; accepted = s.accepted }
 
@@ -36,7 +34,7 @@ fresh =
     record {
       waiting = no_jobs.waiting;
       runs = no_jobs.runs;
-      last = NoJob;
+      last = None;
       ticks = record { 0 = 0 };
       accepted = 0;
     }

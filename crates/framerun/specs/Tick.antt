@@ -1,7 +1,6 @@
 -- 02, No. 6: what one tick of a frame box does. "Tick t has slot t mod 1,200", and the slot's partition
 -- has the tick, whatever waits. What it does to the queues is crate queues'.
-use Rattle.std.specs.Prelude.{Bool, true, false, not, ◌||◌, ℕ, ◌+◌, ltb, eqb, if◌then◌else◌}
-use Rattle.laws.specs.declared.Found.{Found}
+use Rattle.std.specs.Prelude.{Bool, true, false, not, ◌||◌, ℕ, ◌+◌, ltb, eqb, if◌then◌else◌, None, Option, Some}
 use Rattle.laws.specs.Choice.{unless◌say◌else◌}
 use Rattle.table.specs.declared.Mode.TheVariants.{N}
 use Rattle.table.specs.declared.Refusal.TheVariants.{NoJobRan, CountSpent, Unsound}
@@ -11,8 +10,6 @@ use Rattle.events.specs.declared.Left.{Left}
 use Rattle.events.specs.declared.Left.TheVariants.{Nobody, Done, Cut}
 use Rattle.events.specs.declared.TickAnswer.{TickAnswer}
 use Rattle.events.specs.declared.Answer.TheVariants.{Ticked}
-use Rattle.queues.specs.declared.Last.{Last}
-use Rattle.queues.specs.declared.Last.TheVariants.{NoJob, Job}
 use Rattle.queues.specs.Queues.{front_gone, highest_waiting, turn_of, front_ran, last_of, ran_job}
 use Rattle.frametable.specs.declared.FrameTable.{FrameTable}
 use Rattle.frametable.specs.Rows.{partition_at, frame_priority_at, frame_limit_at}
@@ -34,16 +31,16 @@ without_front s k = with_queues s (front_gone (queues_of s) k)
 
 -- "step 1 only if the last taken tick ran a job": "Mark 1: that job leaves, finished." "a job reaching
 -- its limit is cut": mark 0, and its run count equals its limit
-unfoldable pub settle : FrameTable → FrameState → Bool → Last → Settled
-settle t s mark NoJob = record { state = s; left = Nobody }
-settle t s true (Job k) = record { state = without_front s k; left = Done k }
-settle t s false (Job k) =
+unfoldable pub settle : FrameTable → FrameState → Bool → Option ℕ → Settled
+settle t s mark None = record { state = s; left = Nobody }
+settle t s true (Some k) = record { state = without_front s k; left = Done k }
+settle t s false (Some k) =
     if eqb (runs_at s k) (frame_limit_at t k)
     then record { state = without_front s k; left = Cut k }
     else record { state = s; left = Nobody }
 
 -- "Its highest task with a waiting job", of partition p
-unfoldable pub highest_task : FrameTable → FrameState → ℕ → Found
+unfoldable pub highest_task : FrameTable → FrameState → ℕ → Option ℕ
 highest_task t s p = highest_waiting t.ntasks (queues_of s) (λ k. eqb (partition_at t k) p) (frame_priority_at t)
 
 -- the slot's partition runs its highest task's front job; "a slot whose partition has no waiting job is

@@ -3,10 +3,9 @@
 
 #![tactic(auto)]
 
-use events::{Answer, Starting, Taking};
+use events::Answer;
 use frametable::FrameTable;
-use queues::Last;
-use table::TASKS;
+use table::{Refusal, TASKS};
 use units::Ticks;
 
 // The counts of a run: the tasks' queues (crate queues), the last-run job, and how many ticks were
@@ -15,7 +14,7 @@ use units::Ticks;
 pub struct FrameState {
     pub waiting: [u8; TASKS],
     pub runs: [u32; TASKS],
-    pub last: Last,
+    pub last: Option<usize>,
     pub ticks: Ticks,
     pub accepted: u32,
 }
@@ -27,21 +26,24 @@ pub struct FrameRun {
     pub state: FrameState,
 }
 
+// What is handed back for a start.
 #[derive(Clone, Copy)]
 pub struct FrameBegun {
-    pub answer: Starting,
+    pub answer: Result<(), Refusal>,
     pub run: FrameRun,
 }
 
+// What is handed back for an event.
 #[derive(Clone, Copy)]
 pub struct FrameAnswered {
     pub answer: Answer,
     pub run: FrameRun,
 }
 
-// What is handed back for many event lines: the run after them.
+// What is handed back for many event lines: that they were taken, or why none of them was, and the
+// run after them.
 #[derive(Clone, Copy)]
 pub struct FrameMany {
-    pub answer: Taking,
+    pub answer: Result<(), Refusal>,
     pub run: FrameRun,
 }

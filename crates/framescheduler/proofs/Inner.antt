@@ -1,4 +1,5 @@
 -- The steps of a frame box on the parts of its run, case by case as the code asks. Assumes nothing.
+use Rattle.std.proofs.Common.{Err, None, Ok, Option, Some}
 use mathlib.Core.Path.{◌≡◌, refl, sym, ap, subst, ◌∙◌}
 use mathlib.Core.Bool.{Bool, true, false, not, ◌&&◌, ◌||◌}
 use mathlib.Core.List.{List, [], ◌∷◌}
@@ -8,8 +9,6 @@ use native.Mathlib.Omega.{arith}
 use lib.Dec.{ltb, eqb}
 use lib.ListN.{length, get_or}
 use borrow.Author.Tests.{ltb-true, ltb-false, lt-ltb, le-ltb, le-leb, lt-leb, eq-eqb, ne_eqb}
-use Rattle.laws.specs.declared.Found.{Found}
-use Rattle.laws.specs.declared.Found.TheVariants.{At, Nothing}
 use Rattle.laws.specs.Choice.{every, within}
 use Rattle.laws.specs.Rows.{anew}
 use Rattle.laws.proofs.Choice.{and_left, and_right, true_or_false, within_high}
@@ -20,19 +19,14 @@ use Rattle.slots.specs.Frame.{owner_at}
 use Rattle.events.specs.declared.Answer.TheVariants.{Released, Ticked}
 use Rattle.events.specs.declared.Left.{Left}
 use Rattle.events.specs.declared.Left.TheVariants.{Nobody, Done, Cut}
-use Rattle.events.specs.declared.Starting.TheVariants.{Started, Refused}
 use Rattle.events.specs.declared.Turn.{Turn}
 use Rattle.events.specs.declared.Turn.TheVariants.{Run as Ran, Empty, Idle}
-use Rattle.events.specs.declared.Taking.TheVariants.{Taken}
 use Rattle.events.specs.declared.Event.{Event}
 use Rattle.events.specs.declared.Event.TheVariants.{Release, Tick}
-use Rattle.events.specs.declared.EventLine.{EventLine}
 use Rattle.events.specs.Values.{lines_said}
 use Rattle.events.specs.Boxes.{after_line_in}
 use Rattle.events.proofs.Boxes.{Going, going_end as going-end-in, line_keeps as line-keeps-in}
 use Rattle.events.proofs.Values.{lines_length}
-use Rattle.queues.specs.declared.Last.{Last}
-use Rattle.queues.specs.declared.Last.TheVariants.{NoJob, Job}
 use Rattle.queues.specs.Queues.{turn_of, last_of, ran_job, is_last}
 use Rattle.queues.specs.Sound.{last_sound, counts_sound, queue_sound}
 use Rattle.queues.specs.Inner.{left_waiting, left_runs}
@@ -60,12 +54,12 @@ use Rattle.framescheduler.specs.Inner.{tasks_sound, state_of, head_of, run_of, L
 use Rattle.framescheduler.specs.Inner.{TurnLow, RunsOn, SoundRun}
 
 -- a start
-pub start_taken : (t : FrameTable) → frame_table_keeps t ≡ true → record { answer = Started; run = fresh_frame t } ≡ start_of t
+pub start_taken : (t : FrameTable) → frame_table_keeps t ≡ true → record { answer = Ok tt; run = fresh_frame t } ≡ start_of t
 unfolding start_of
 start_taken t e = rw e
 
 pub start_unsound : (t : FrameTable) → frame_table_keeps t ≡ false →
-    record { answer = Refused Unsound; run = fresh_frame t } ≡ start_of t
+    record { answer = Err Unsound; run = fresh_frame t } ≡ start_of t
 unfolding start_of
 start_unsound t e = rw e
 
@@ -111,31 +105,31 @@ module _ (t : FrameTable) (h : Head) (w c : List ℕ) (r : SoundRun t h w c) whe
   pub last_low : LastLow h.last
   last_low = go h.last run_state.last
     where
-      go : (l : Last) → LastSound t.ntasks (queues_of (state_of h w c)) h.ticks.0 l → LastLow l
-      go NoJob q = tt
-      go (Job k) q = omega (arith, q.below, run_rules.tasks_high)
+      go : (l : Option ℕ) → LastSound t.ntasks (queues_of (state_of h w c)) h.ticks.0 l → LastLow l
+      go None q = tt
+      go (Some k) q = omega (arith, q.below, run_rules.tasks_high)
 
   pub numbered : Numbered t
   numbered = record { few = run_rules.tasks_high; least = λ k l. (run_rules.task k l).priority_low }
 
 -- The mark.
 module _ (t : FrameTable) (h : Head) (w c : List ℕ) where
-  pub settle_none : (mark : Bool) → h.last ≡ NoJob → Settles t h mark w c w c Nobody
+  pub settle_none : (mark : Bool) → h.last ≡ None → Settles t h mark w c w c Nobody
   unfolding settle
   settle_none mark e = rw e
 
-  pub settle_done : (mark : Bool) (k : ℕ) (w' c' : List ℕ) → h.last ≡ Job k → k < 64 → mark ≡ true →
+  pub settle_done : (mark : Bool) (k : ℕ) (w' c' : List ℕ) → h.last ≡ Some k → k < 64 → mark ≡ true →
       w' ≡ left_waiting w k → c' ≡ left_runs c k → Settles t h mark w c w' c' (Done k)
   unfolding settle
   settle_done mark k w' c' e l m p q = rw (p ∙ waiting_left w k l, q ∙ runs_left c k l, e, m)
 
-  pub settle_cut : (mark : Bool) (k : ℕ) (w' c' : List ℕ) → h.last ≡ Job k → k < 64 → mark ≡ false →
+  pub settle_cut : (mark : Bool) (k : ℕ) (w' c' : List ℕ) → h.last ≡ Some k → k < 64 → mark ≡ false →
       get_or c k 0 ≡ frame_limit_at t k → w' ≡ left_waiting w k → c' ≡ left_runs c k → Settles t h mark w c w' c' (Cut k)
   unfolding settle
   settle_cut mark k w' c' e l m a p q =
       rw (p ∙ waiting_left w k l, q ∙ runs_left c k l, e, m, eq-eqb (get_or c k 0) (frame_limit_at t k) a)
 
-  pub settle_stay : (mark : Bool) (k : ℕ) → h.last ≡ Job k → mark ≡ false → (get_or c k 0 ≡ frame_limit_at t k → ⊥) →
+  pub settle_stay : (mark : Bool) (k : ℕ) → h.last ≡ Some k → mark ≡ false → (get_or c k 0 ≡ frame_limit_at t k → ⊥) →
       Settles t h mark w c w c Nobody
   unfolding settle
   settle_stay mark k e m a = rw (e, m, ne_eqb (get_or c k 0) (frame_limit_at t k) a)
@@ -265,9 +259,9 @@ module _ (t : FrameTable) (h : Head) (w c : List ℕ) (mark : Bool) (r : SoundRu
           (run_state t h w c r).last k l).front
           g
 
-      go : (a : Found) → highest_task t z p ≡ a → (turn : Turn) → turn ≡ turn_of p a →
+      go : (a : Option ℕ) → highest_task t z p ≡ a → (turn : Turn) → turn ≡ turn_of p a →
           TurnIn t.ntasks turn × TurnLow turn c'
-      go (At k) q turn d =
+      go (Some k) q turn d =
           let f = found_front t z k q in
           rw d (
             f.below,
@@ -276,7 +270,7 @@ module _ (t : FrameTable) (h : Head) (w c : List ℕ) (mark : Bool) (r : SoundRu
               omega (arith, row k f.below f.waits, (rules.task k f.below).limit_high),
             ),
           )
-      go Nothing q turn d = rw d (tt, tt)
+      go None q turn d = rw d (tt, tt)
 
   pub turn_low : (turn : Turn) → turn ≡ turn_of (owner_at h.ticks.0) (highest_in t w' (owner_at h.ticks.0)) →
       TurnLow turn c'
@@ -315,15 +309,15 @@ many_taken r values room e h =
     rw (e, le-leb (9 * length (lines_said values)) (length room) (omega (arith, lines_length values)))
 
 -- All lines, as the code hands them back.
-pub going_end : (r : FrameRun) (ls : List EventLine) (room : List ℕ) (z : FrameRun) (left : List ℕ) (i : ℕ) →
+pub going_end : (r : FrameRun) (ls : List (Option Event)) (room : List ℕ) (z : FrameRun) (left : List ℕ) (i : ℕ) →
     i ≡ length ls → Going frame_box r ls room z left i →
-    record { many = record { answer = Taken; run = z }; room = left } ≡ taken r ls room
+    record { many = record { answer = Ok tt; run = z }; room = left } ≡ taken r ls room
 going_end r ls room z left i e g =
     let h = going-end-in frame_box r ls room z left i e g in
     rw (h.0, ← h.1)
 
 -- a line keeps the run sound, and its rows in their arrays
-pub line_keeps : (t : FrameTable) (h : Head) (w c : List ℕ) (l : EventLine) (h' : Head) (w' c' : List ℕ) →
+pub line_keeps : (t : FrameTable) (h : Head) (w c : List ℕ) (l : Option Event) (h' : Head) (w' c' : List ℕ) →
     SoundRun t h w c → run_of t h' w' c' ≡ after_line_in frame_box (run_of t h w c) l → SoundRun t h' w' c'
 line_keeps t h w c l h' w' c' r e =
     let g = line-keeps-in frame_box Good event_keeps (run_of t h w c) l (run_shaped t h w c r, r.sound) in

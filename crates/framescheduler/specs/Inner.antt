@@ -1,15 +1,12 @@
 -- Only contracts of inner functions cite this file; a buyer need not read it. It says what a step makes
 -- of a frame box's run in parts: its table, its head and its queues. `Rattle.framerun.specs` says the
 -- steps.
-use Rattle.std.specs.Prelude.{◌≡◌, Bool, true, ◌&&◌, List, ℕ, ◌+◌, ◌≤◌, ◌<◌, ltb, eqb, length, get_or, set}
-use Rattle.laws.specs.declared.Found.{Found}
+use Rattle.std.specs.Prelude.{◌≡◌, Bool, true, ◌&&◌, List, ℕ, ◌+◌, ◌≤◌, ◌<◌, ltb, eqb, length, get_or, set, None, Option, Some}
 use Rattle.laws.specs.Choice.{every}
 use Rattle.laws.specs.Rows.{all_below, highest}
 use Rattle.events.specs.declared.Left.{Left}
 use Rattle.events.specs.declared.Turn.{Turn}
 use Rattle.events.specs.declared.Turn.TheVariants.{Run as Ran, Empty, Idle}
-use Rattle.queues.specs.declared.Last.{Last}
-use Rattle.queues.specs.declared.Last.TheVariants.{NoJob, Job}
 use Rattle.frametable.specs.declared.FrameTable.{FrameTable}
 use Rattle.frametable.specs.Rows.{partition_at, frame_priority_at}
 use Rattle.framerun.specs.declared.FrameState.{FrameState}
@@ -40,9 +37,9 @@ abbrev pub stepped : FrameTable → Step → List ℕ → List ℕ → FrameAnsw
 stepped t d waiting runs = record { answer = d.answer; run = run_of t d.head waiting runs }
 
 -- the last-run task has a row in the arrays
-abbrev pub LastLow : Last → Type 0
-LastLow NoJob = Unit {0}
-LastLow (Job k) = k < 64
+abbrev pub LastLow : Option ℕ → Type 0
+LastLow None = Unit {0}
+LastLow (Some k) = k < 64
 
 -- the mark, on the queues w and c
 abbrev pub Settles : FrameTable → Head → Bool → List ℕ → List ℕ → List ℕ → List ℕ → Left → Type 0
@@ -55,7 +52,7 @@ pub record Numbered (t : FrameTable) : Type 0 where
   pub least : (k : ℕ) → k < t.ntasks → 1 ≤ frame_priority_at t k
 
 -- the highest task of partition p with a job waiting in w
-abbrev pub highest_in : FrameTable → List ℕ → ℕ → Found
+abbrev pub highest_in : FrameTable → List ℕ → ℕ → Option ℕ
 highest_in t w p = highest t.ntasks (λ k. ltb 0 (get_or w k 0) && eqb (partition_at t k) p) (frame_priority_at t)
 
 -- the job that runs has a row, and its count may rise by 1

@@ -16,10 +16,9 @@ ghost use Rattle.framerun.specs.Many.{frame_many_of};
 ghost use Rattle.framescheduler.specs.Inner.{head_of, run_of};
 
 use crate::steps::Head;
-use events::{Answer, Event, LINE_VALUES, Starting, TOLD_VALUES, Taking};
+use events::{Answer, Event, LINE_VALUES, TOLD_VALUES};
 use framerun::{FrameAnswered, FrameBegun, FrameMany, FrameRun, FrameState};
 use frametable::FrameTable;
-use queues::Last;
 use table::{Refusal, TASKS};
 use units::Ticks;
 
@@ -30,7 +29,7 @@ fn fresh_state() -> FrameState
     FrameState {
         waiting: [0u8; TASKS],
         runs: [0u32; TASKS],
-        last: Last::NoJob,
+        last: None,
         ticks: Ticks(0),
         accepted: 0,
     }
@@ -44,12 +43,12 @@ pub fn start(t: FrameTable) -> FrameBegun
     let run = FrameRun { table: t, state };
     if frametable::frame_table_keeps(t) {
         return FrameBegun {
-            answer: Starting::Started,
+            answer: Ok(()),
             run,
         };
     }
     FrameBegun {
-        answer: Starting::Refused(Refusal::Unsound),
+        answer: Err(Refusal::Unsound),
         run,
     }
 }
@@ -130,13 +129,13 @@ pub fn answer_many(r: FrameRun, lines: &[u64], told: &mut [u64]) -> FrameMany
     let s = r.state;
     if !sound::run_sound(t, s) {
         return FrameMany {
-            answer: Taking::Refused(Refusal::Unsound),
+            answer: Err(Refusal::Unsound),
             run: r,
         };
     }
     if told.len() / TOLD_VALUES < lines.len() / LINE_VALUES {
         return FrameMany {
-            answer: Taking::Refused(Refusal::RoomShort),
+            answer: Err(Refusal::RoomShort),
             run: r,
         };
     }
@@ -147,7 +146,7 @@ pub fn answer_many(r: FrameRun, lines: &[u64], told: &mut [u64]) -> FrameMany
     let head = steps::answer_lines(t, h, &frame, &mut waiting, &mut runs, lines, told);
     let run = run_of(t, head, waiting, runs);
     FrameMany {
-        answer: Taking::Taken,
+        answer: Ok(()),
         run,
     }
 }

@@ -15,12 +15,9 @@ ghost use Rattle.framerun.specs.Many.{taken};
 ghost use Rattle.framescheduler.specs.Inner.{run_of, stepped, highest_in, Numbered, LastLow, Settles, TurnLow};
 ghost use Rattle.framescheduler.specs.Inner.{RunsOn, SoundRun};
 
-use events::{
-    Answer, Event, EventLine, LINE_VALUES, Left, TOLD_VALUES, Taking, TickAnswer, Told, Turn,
-};
+use events::{Answer, Event, LINE_VALUES, Left, TOLD_VALUES, TickAnswer, Told, Turn};
 use frametable::{FrameTable, FrameTask};
-use laws::Found;
-use queues::{Last, MOST, QUEUE};
+use queues::{MOST, QUEUE};
 use slots::SLOTS;
 use table::{Mode, Refusal, TASKS};
 use units::Ticks;
@@ -28,7 +25,7 @@ use units::Ticks;
 // A run without its table and its queues.
 #[derive(Clone, Copy)]
 pub struct Head {
-    pub last: Last,
+    pub last: Option<usize>,
     pub ticks: Ticks,
     pub accepted: u32,
 }
@@ -61,8 +58,8 @@ fn settle(
 {
     let last = h.last;
     match last {
-        Last::NoJob => Left::Nobody,
-        Last::Job(k) => {
+        None => Left::Nobody,
+        Some(k) => {
             if mark {
                 queues::leave(k, waiting, runs);
                 return Left::Done(k);
@@ -90,17 +87,17 @@ fn is_higher(k: FrameTask, waiting: u8, p: u8, height: u8) -> bool
 }
 
 // A walk keeps the highest row passed; priorities are at least 1, so height 0 is nothing found.
-fn found_by(height: u8, row: usize) -> Found
+fn found_by(height: u8, row: usize) -> Option<usize>
     ensures { result ≡ found_by height row }
 {
     if height == 0 {
-        return Found::Nothing;
+        return None;
     }
-    Found::At(row)
+    Some(row)
 }
 
 // The partition's highest task with a waiting job.
-fn highest_task(t: FrameTable, waiting: &[u8; TASKS], p: u8) -> Found
+fn highest_task(t: FrameTable, waiting: &[u8; TASKS], p: u8) -> Option<usize>
     requires { Numbered t }
     ensures { result ≡ highest_in t waiting.now p }
 {
@@ -117,23 +114,23 @@ fn highest_task(t: FrameTable, waiting: &[u8; TASKS], p: u8) -> Found
 }
 
 // What is said of a slot: its partition runs a job of the task found, or it is empty.
-fn turn_of(p: u8, found: Found) -> Turn
+fn turn_of(p: u8, found: Option<usize>) -> Turn
     ensures { result ≡ turn_of p found }
 {
     let server = p as usize;
     match found {
-        Found::At(task) => Turn::Run { server, task },
-        Found::Nothing => Turn::Empty { server },
+        Some(task) => Turn::Run { server, task },
+        None => Turn::Empty { server },
     }
 }
 
-fn last_of(turn: Turn) -> Last
+fn last_of(turn: Turn) -> Option<usize>
     ensures { result ≡ last_of turn }
 {
     match turn {
-        Turn::Run { server: _, task } => Last::Job(task),
-        Turn::Empty { server: _ } => Last::NoJob,
-        Turn::Idle => Last::NoJob,
+        Turn::Run { server: _, task } => Some(task),
+        Turn::Empty { server: _ } => None,
+        Turn::Idle => None,
     }
 }
 
@@ -191,7 +188,7 @@ fn release_in(
 }
 
 // Whether a mark may come: 9 is for mark 1 where the last taken tick ran no job.
-fn mark_may_come(last: Last, mark: bool) -> bool
+fn mark_may_come(last: Option<usize>, mark: bool) -> bool
     ensures { result ≡ (not mark || ran_job last) }
 {
     if !mark {
@@ -279,7 +276,7 @@ fn answer_line(
     frame: &[u8; SLOTS],
     waiting: &mut [u8; TASKS],
     runs: &mut [u32; TASKS],
-    line: EventLine,
+    line: Option<Event>,
 ) -> Reply
     requires { SoundRun t h waiting.old runs.old × (frame.now ≡ the_frame) }
     ensures { (result.told ≡ told_in frame_box (run_of t h waiting.old runs.old) line)
@@ -287,14 +284,14 @@ fn answer_line(
         ≡ after_line_in frame_box (run_of t h waiting.old runs.old) line) }
 {
     match line {
-        EventLine::Of(e) => {
+        Some(e) => {
             let d = event_in(t, h, frame, waiting, runs, e);
             let answer = d.answer;
             let head = d.head;
             let told = events::told_of(answer);
             Reply { told, head }
         }
-        EventLine::Another => {
+        None => {
             let number = table::number_of(Refusal::Malformed);
             Reply {
                 told: Told::No(number),
@@ -317,7 +314,7 @@ pub(crate) fn answer_lines(
     requires { (length lines.now / 2 ≤ length told.old / 9)
         × SoundRun t h waiting.old runs.old × (frame.now ≡ the_frame) }
     ensures { record {
-      many = record { answer = Taking.Taken; run = run_of t result waiting.new runs.new };
+      many = record { answer = Ok tt; run = run_of t result waiting.new runs.new };
       room = told.new;
     }
         ≡ taken (run_of t h waiting.old runs.old) (lines_said lines.now) told.old }

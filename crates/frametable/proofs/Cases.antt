@@ -1,5 +1,6 @@
 -- Small tables of a frame box, worked out by hand from the words of request No. 6 and document 01,
 -- and computed. A slip in a definition shows here as an equation that is false. Assumes nothing.
+use Rattle.std.proofs.Common.{Some}
 use mathlib.Core.Path.{◌≡◌, refl}
 use mathlib.Core.Bool.{true, false}
 use mathlib.Core.List.{List, [], ◌∷◌}
@@ -8,7 +9,6 @@ use Rattle.laws.specs.Choice.{every}
 use Rattle.laws.specs.Search.{least, first_of}
 use Rattle.laws.specs.Rows.{all_below, listed}
 use Rattle.table.specs.Rules.{differ}
-use Rattle.table.specs.declared.Pair.TheVariants.{Equal}
 use Rattle.table.specs.Pairs.{later_equal, first_pair}
 use Rattle.frametable.specs.declared.FrameTask.{FrameTask}
 use Rattle.frametable.specs.declared.FrameTable.{FrameTable}
@@ -77,6 +77,6 @@ unfolding computed
 priorities_equal = refl
 
 -- and of two pairs the one is told whose smaller row comes first, though the other's larger row does
-pub pair_told_lem : equal_frame_tasks (task 0 7 1 ∷ task 1 8 1 ∷ task 2 8 1 ∷ task 0 7 1 ∷ []) ≡ Equal 0 3
+pub pair_told_lem : equal_frame_tasks (task 0 7 1 ∷ task 1 8 1 ∷ task 2 8 1 ∷ task 0 7 1 ∷ []) ≡ Some (0, 3)
 unfolding computed
 pair_told_lem = refl

@@ -1,5 +1,6 @@
 -- The rules row by row, joined to the rules of a whole table of a frame box. The laws of rows in use
 -- and of pairs are crate table's. Assumes nothing.
+use Rattle.std.proofs.Common.{None, Some}
 use mathlib.Core.Path.{◌≡◌, ◌∙◌}
 use mathlib.Core.Bool.{Bool, true, false, ◌&&◌}
 use mathlib.Core.List.{List, [], ◌∷◌}
@@ -9,7 +10,6 @@ use lib.ListN.{length, get_or, take}
 use lib.Seq.{length-take-le}
 use Rattle.laws.specs.Choice.{every, within}
 use Rattle.laws.proofs.Choice.{within_high, every_fails}
-use Rattle.table.specs.declared.Pair.TheVariants.{Equal, Differ}
 use Rattle.table.specs.Pairs.{is_differ}
 use Rattle.table.specs.Rules.{tick_keeps}
 use Rattle.table.proofs.Pairs.{differ_found}
@@ -47,10 +47,10 @@ module _ (t : FrameTable) (whole : length t.tasks ≡ 64) (held : within 1 64 t.
       joined (within 1 64 t.ntasks) _ _ held (rw (p, u, x, held))
 
   -- two tasks of equal priority
-  pub equal_pair : (i j : ℕ) → equal_frame_tasks (take t.ntasks t.tasks) ≡ Equal i j → false ≡ frame_table_keeps t
+  pub equal_pair : (i j : ℕ) → equal_frame_tasks (take t.ntasks t.tasks) ≡ Some (i, j) → false ≡ frame_table_keeps t
   equal_pair i j e = every_fails _ 3 (omega arith) (rw e) ∙ tests-decide
 
   -- none
-  pub no_pair : equal_frame_tasks (take t.ntasks t.tasks) ≡ Differ →
+  pub no_pair : equal_frame_tasks (take t.ntasks t.tasks) ≡ None →
       every (tick_keeps t.tick.0 ∷ true ∷ frame_tasks_keep t.tasks t.ntasks ∷ true ∷ []) ≡ frame_table_keeps t
   no_pair e = rw e at tests-decide

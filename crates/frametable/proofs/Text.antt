@@ -3,6 +3,7 @@
 -- as with every table (crate text, proofs/TableText.antt): here is what is this table's own. The
 -- statements to quote stand at the end; the cases of each number are in TextExactly.antt. Assumes
 -- nothing.
+use Rattle.std.proofs.Common.{None, Option, Some}
 use mathlib.Core.Path.{◌≡◌, refl, sym, ap, subst, ◌∙◌}
 use mathlib.Core.Bool.{true, false, not}
 use mathlib.Core.List.{List, [], ◌∷◌, map}
@@ -12,16 +13,12 @@ use native.Mathlib.Omega.{arith}
 use lib.Dec.{ltb}
 use lib.ListN.{length, get_or, length-append}
 use borrow.Author.Tests.{ltb-true, eqb-true}
-use Rattle.laws.specs.declared.Found.{Found}
-use Rattle.laws.specs.declared.Found.TheVariants.{At, Nothing}
 use Rattle.laws.specs.Choice.{every}
 use Rattle.laws.specs.Search.{first_failed}
 use Rattle.laws.proofs.Choice.{clash, if_ind, and_left, and_right, every_at, within_low, within_high, is_within}
 use Rattle.laws.proofs.Rows.{all_build}
 use Rattle.laws.proofs.Search.{failed_none}
 use Rattle.units.specs.declared.Micros.{Micros}
-use Rattle.table.specs.declared.Pair.{Pair}
-use Rattle.table.specs.declared.Pair.TheVariants.{Equal as EqualRows, Differ}
 use Rattle.table.specs.declared.Refusal.{Refusal}
 use Rattle.table.specs.declared.Refusal.TheVariants.{Malformed, OutOfBounds}
 use Rattle.table.specs.declared.Standing.{Standing}
@@ -49,7 +46,7 @@ use Rattle.frametable.specs.Text.{frame_task_of, frame_placed, frame_task_bounds
 -- A line that keeps the rules, by each of them.
 pub record FrameLineKeeps (n : ℕ) (a : FrameRows) (l : FrameLine) : Type 0 where
   pub stands : frame_placed n (frame_word_of l) ≡ true
-  pub formed : frame_malformed_at l ≡ Nothing
+  pub formed : frame_malformed_at l ≡ None
   pub bounded : every (frame_bounds a l) ≡ true
 
 pub frame_line_keeps : (n : ℕ) (a : FrameRows) (l : FrameLine) → frame_standing n a l ≡ Kept → FrameLineKeeps n a l
@@ -82,7 +79,7 @@ frame_tick_within a u e =
 pub frame_no_form : (n : ℕ) (a : FrameRows) (word : Word) (field : ℕ) →
     FrameLineKeeps n a (MalformedLine word field) → ⊥
 frame_no_form n a word field k =
-    let e : At field ≡ Nothing = k.formed in let c : ◌≡◌ {A = ℕ} 0 1 = cc in omega arith
+    let e : Some field ≡ None = k.formed in let c : ◌≡◌ {A = ℕ} 0 1 = cc in omega arith
 
 -- Rows that keep the rules so far, as lines are read: what `frame_keeps` says of the tick and of each
 -- row, but not yet that there is one, nor that priorities differ.
@@ -233,10 +230,10 @@ standing_numbered n a l =
     if_ind StandingNumbered (frame_placed n (frame_word_of l))
     (λ e. told (frame_malformed_at l) (first_failed (frame_bounds a l))) (λ e. inr (inl refl))
   where
-    told : (x y : Found) → StandingNumbered (tell Malformed at x or tell OutOfBounds at y or Kept)
-    told (At field) y = inr (inl refl)
-    told Nothing (At field) = inr (inr refl)
-    told Nothing Nothing = inl refl
+    told : (x y : Option ℕ) → StandingNumbered (tell Malformed at x or tell OutOfBounds at y or Kept)
+    told (Some field) y = inr (inl refl)
+    told None (Some field) = inr (inr refl)
+    told None None = inl refl
 
 broken_numbered : (n : ℕ) (a : FrameRows) (l : FrameLine) (why : Refusal) (field : ℕ) →
     frame_standing n a l ≡ Broken why field → Numbered (Refused why n field)
@@ -253,9 +250,9 @@ ended_numbered n a =
     if_ind (λ (r : ReadOf FrameRows). Numbered r.answer) (not (is_nil a.tasks))
     (λ e. told (equal_frame_tasks a.tasks)) (λ e. inr (inl refl))
   where
-    told : (p : Pair) → Numbered (pair_told no_frame_rows 2 p (taken a)).answer
-    told (EqualRows i j) = inr (inr (inr refl))
-    told Differ = inl refl
+    told : (p : Option (ℕ × ℕ)) → Numbered (pair_told no_frame_rows 2 p (taken a)).answer
+    told (Some (i, j)) = inr (inr (inr refl))
+    told None = inl refl
 
 ended_none : (n : ℕ) (a : FrameRows) → ((frame_ended n a).answer ≡ Taken) ⊎ ((frame_ended n a).rows ≡ no_frame_rows)
 unfolding frame_ended
@@ -263,10 +260,10 @@ ended_none n a =
     if_ind (λ (r : ReadOf FrameRows). (r.answer ≡ Taken) ⊎ (r.rows ≡ no_frame_rows)) (not (is_nil a.tasks))
     (λ e. told (equal_frame_tasks a.tasks)) (λ e. inr refl)
   where
-    told : (p : Pair) →
+    told : (p : Option (ℕ × ℕ)) →
         let r = pair_told no_frame_rows 2 p (taken a) in (r.answer ≡ Taken) ⊎ (r.rows ≡ no_frame_rows)
-    told (EqualRows i j) = inr refl
-    told Differ = inl refl
+    told (Some (i, j)) = inr refl
+    told None = inl refl
 
 -- The statements to quote. `frame_shown (frame_read text)` is what the reader answers.
 module _ (text : List ℕ) where

@@ -1,6 +1,7 @@
 -- 02, No. 6 and 01, Numbers for no: "Each is given exactly in its case." The cases of a frame box's
 -- text, each with what is answered: every text is in one, and is answered as the case says. So 1, 2
 -- and 5 are given exactly there, with line and field or both lines. Assumes nothing.
+use Rattle.std.proofs.Common.{None, Option, Some}
 use mathlib.Core.Path.{◌≡◌, refl, sym, subst, ◌∙◌}
 use mathlib.Core.Bool.{Bool, true, false}
 use mathlib.Core.List.{List, []}
@@ -12,8 +13,6 @@ use Rattle.laws.specs.Choice.{unless◌say◌else◌}
 use Rattle.laws.proofs.Choice.{le_or_lt}
 use Rattle.decimal.specs.Lines.{line_feed}
 use Rattle.decimal.proofs.Lines.{split_some}
-use Rattle.table.specs.declared.Pair.{Pair}
-use Rattle.table.specs.declared.Pair.TheVariants.{Equal as EqualRows, Differ}
 use Rattle.table.specs.declared.Refusal.TheVariants.{Malformed}
 use Rattle.text.specs.Standing.{is_nil}
 use Rattle.text.specs.TableText.{ReadOf, refused_beside}
@@ -58,12 +57,12 @@ module _ (text : List ℕ) where
   some_case = length_case (le_or_lt (length text) 16384)
     where
       end_case : AllKept text → (b : Bool) → is_nil (get_or (parts text) (closed_lines text) []) ≡ b →
-          (d : Bool) → is_nil (rows_said text).tasks ≡ d → (p : Pair) →
+          (d : Bool) → is_nil (rows_said text).tasks ≡ d → (p : Option (ℕ × ℕ)) →
           equal_frame_tasks (rows_said text).tasks ≡ p → SomeCase
       end_case a false e d f p q = (_, unclosed a e)
       end_case a true e true f p q = (_, no_task a e f)
-      end_case a true e false f (EqualRows i j) q = (_, equal_tasks i j a e f q)
-      end_case a true e false f Differ q = (_, all_taken a e f q)
+      end_case a true e false f (Some (i, j)) q = (_, equal_tasks i j a e f q)
+      end_case a true e false f None q = (_, all_taken a e f q)
 
       line_case : length text ≤ 16384 →
           FirstBroken frame_text 1 no_frame_rows (parts text) (closed_lines text) ⊎ FirstKept text (closed_lines text) →

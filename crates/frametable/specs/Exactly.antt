@@ -1,9 +1,8 @@
 -- 02, No. 6 and 01, Numbers for no: "Each is given exactly in its case." The cases of a frame box's
 -- text, each with what is answered: 1, 2 and 5 with line and field or both lines. That every text is in
 -- one, and answered so, is proofs/TextExactly.antt.
-use Rattle.std.specs.Prelude.{◌≡◌, true, false, List, [], map, ℕ, ◌+◌, ◌-◌, ◌≤◌, ◌<◌, length, get_or, take}
+use Rattle.std.specs.Prelude.{◌≡◌, true, false, List, [], map, ℕ, ◌+◌, ◌-◌, ◌≤◌, ◌<◌, length, get_or, take, None, Some}
 use Rattle.decimal.specs.Lines.{line_feed, split}
-use Rattle.table.specs.declared.Pair.TheVariants.{Equal as EqualRows, Differ}
 use Rattle.table.specs.declared.Refusal.{Refusal}
 use Rattle.table.specs.declared.Refusal.TheVariants.{Malformed, OutOfBounds}
 use Rattle.table.specs.declared.Standing.{Standing}
@@ -52,8 +51,8 @@ pub data FrameCase (text : List ℕ) : ReadOf FrameRows → Type 0 where
       is_nil (rows_said text).tasks ≡ true →
       FrameCase text (refused_beside no_frame_rows Malformed (1 + closed_lines text) 0)
   equal_tasks : (i j : ℕ) → AllKept text → is_nil (get_or (parts text) (closed_lines text) []) ≡ true →
-      is_nil (rows_said text).tasks ≡ false → equal_frame_tasks (rows_said text).tasks ≡ EqualRows i j →
+      is_nil (rows_said text).tasks ≡ false → equal_frame_tasks (rows_said text).tasks ≡ Some (i, j) →
       FrameCase text (equal_beside no_frame_rows (2 + i) (2 + j))
   all_taken : AllKept text → is_nil (get_or (parts text) (closed_lines text) []) ≡ true →
-      is_nil (rows_said text).tasks ≡ false → equal_frame_tasks (rows_said text).tasks ≡ Differ →
+      is_nil (rows_said text).tasks ≡ false → equal_frame_tasks (rows_said text).tasks ≡ None →
       FrameCase text (taken (rows_said text))

@@ -2,9 +2,7 @@
 -- tick line and 1 to 64 task lines of partition (0 measuring, 1 alarm sending, 2 panel), priority
 -- and one limit". Here is judged only whether a line has the form of a `tick` or of a `task` line;
 -- form, fields and numbers are those of document 01 (crate text, specs/Line.antt).
-use Rattle.std.specs.Prelude.{List, [], ◌∷◌, ℕ}
-use Rattle.laws.specs.declared.Found.{Found}
-use Rattle.laws.specs.declared.Found.TheVariants.{At, Nothing}
+use Rattle.std.specs.Prelude.{List, [], ◌∷◌, ℕ, None, Option, Some}
 use Rattle.decimal.specs.Number.{worth}
 use Rattle.decimal.specs.Lines.{tab, split}
 use Rattle.text.specs.declared.Word.{Word}
@@ -28,10 +26,10 @@ frame_word_of (OfTick t) = ATick
 frame_word_of (OfTask k) = ATask
 frame_word_of (Malformed word field) = word
 
-abbrev pub frame_malformed_at : FrameLine → Found
-frame_malformed_at (OfTick t) = Nothing
-frame_malformed_at (OfTask k) = Nothing
-frame_malformed_at (Malformed word field) = At field
+abbrev pub frame_malformed_at : FrameLine → Option ℕ
+frame_malformed_at (OfTick t) = None
+frame_malformed_at (OfTask k) = None
+frame_malformed_at (Malformed word field) = Some field
 
 -- The leading word tells which form the fields after it must have. "An older cabinet has no
 -- servers": a `server` line, like one of no known word, is told as the line itself.

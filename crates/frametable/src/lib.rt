@@ -9,7 +9,7 @@ ghost use Rattle.frametable.specs.Rows.{no_frame_table};
 ghost use Rattle.frametable.specs.Rules.{frame_task_keeps, equal_frame_tasks, frame_table_keeps};
 ghost use Rattle.frametable.specs.Inner.{frame_tasks_keep};
 
-use table::{Pair, TASKS};
+use table::TASKS;
 use text::{Reading, Word};
 use units::{Micros, Ticks};
 
@@ -79,15 +79,15 @@ fn rows_in_use(count: usize) -> usize
 }
 
 // The first pair of tasks with equal priority, among the first count.
-pub fn equal_frame_tasks(ks: [FrameTask; TASKS], count: usize) -> Pair
+pub fn equal_frame_tasks(ks: [FrameTask; TASKS], count: usize) -> Option<(usize, usize)>
     ensures { result ≡ equal_frame_tasks (take count ks) }
 {
     let n = rows_in_use(count);
-    let mut answer = Pair::Differ;
+    let mut answer = None;
     'rows: for k in 0..n {
         for l in k + 1..n {
             if ks[k].priority == ks[l].priority {
-                answer = Pair::Equal(k, l);
+                answer = Some((k, l));
                 break 'rows;
             }
         }
@@ -133,9 +133,9 @@ pub fn frame_table_keeps(t: FrameTable) -> bool
     let ks = t.tasks;
     let rows = frame_tasks_keep(ks, n);
     match equal_frame_tasks(ks, n) {
-        Pair::Equal(_, _) => false,
+        Some((_, _)) => false,
         // The count and that priorities differ are known by now; they keep their places in the rule's
         // list.
-        Pair::Differ => laws::all_of(&[ticks, true, rows, true]),
+        None => laws::all_of(&[ticks, true, rows, true]),
     }
 }

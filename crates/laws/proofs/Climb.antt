@@ -1,5 +1,6 @@
 -- A search for the least x with f x ≤ x, where f never falls, may climb: from an r that fails to f
 -- r, since each x from r on and below f r has x < f r ≤ f x. Assumes nothing.
+use Rattle.std.proofs.Common.{None, Some}
 use mathlib.Core.Path.{◌≡◌}
 use mathlib.Core.Bool.{Bool, false}
 use mathlib.Core.Logic.{◌⊎◌, inl, inr}
@@ -7,7 +8,6 @@ use Prim.Native.Nat.{ℕ, ◌+◌, ◌≤◌, ◌<◌}
 use native.Mathlib.Omega.{arith}
 use lib.Dec.{leb}
 use borrow.Author.Tests.{le-leb, lt-leb}
-use Rattle.laws.specs.declared.Found.TheVariants.{At, Nothing}
 use Rattle.laws.specs.Search.{least}
 use Rattle.laws.proofs.Choice.{le_or_lt}
 use Rattle.laws.proofs.Search.{hit, miss, is_least}
@@ -31,9 +31,9 @@ module _ (f : ℕ → ℕ) (low : ℕ) where
 
   -- what the climb stops at is what the search finds
   pub climb_found : (n r : ℕ) → low ≤ r → r < low + n → f r ≤ r → NonePasses (λ x. leb (f x) x) low r →
-      At r ≡ least (λ x. leb (f x) x) low n
-  climb_found n r h l e none = is_least (λ x. leb (f x) x) low n (At r) (hit r h l (le-leb (f r) r e) none)
+      Some r ≡ least (λ x. leb (f x) x) low n
+  climb_found n r h l e none = is_least (λ x. leb (f x) x) low n (Some r) (hit r h l (le-leb (f r) r e) none)
 
   pub climb_none : (n r : ℕ) → low + n ≤ r → NonePasses (λ x. leb (f x) x) low r →
-      Nothing ≡ least (λ x. leb (f x) x) low n
-  climb_none n r h none = is_least (λ x. leb (f x) x) low n Nothing (miss (λ y k l. none y k (omega arith)))
+      None ≡ least (λ x. leb (f x) x) low n
+  climb_none n r h none = is_least (λ x. leb (f x) x) low n None (miss (λ y k l. none y k (omega arith)))

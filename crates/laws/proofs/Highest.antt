@@ -1,4 +1,5 @@
 -- The highest marked row: what it is, and how a walk over the rows finds it. Assumes nothing.
+use Rattle.std.proofs.Common.{None, Option, Some}
 use mathlib.Core.Path.{◌≡◌, refl, sym, ◌∙◌}
 use mathlib.Core.Bool.{Bool, true, false, not, ◌&&◌}
 use mathlib.Core.Logic.{◌⊎◌, inl, inr, ◌↔◌}
@@ -8,8 +9,6 @@ use native.Mathlib.Numerals.{add-one}
 use lib.Dec.{ltb}
 use borrow.Author.Tests.{lt-ltb, le-ltb, ltb-true, ltb-false}
 use borrow.Author.Count.{below_more}
-use Rattle.laws.specs.declared.Found.{Found}
-use Rattle.laws.specs.declared.Found.TheVariants.{At, Nothing}
 use Rattle.laws.specs.Rows.{all_below, highest, found_by}
 use Rattle.laws.proofs.Choice.{clash, and_true, true_or_false}
 use Rattle.laws.proofs.Search.{Searched, hit, miss, is_least}
@@ -22,19 +21,19 @@ pub record Stands (n : ℕ) (marked : ℕ → Bool) (priority : ℕ → ℕ) (i 
   pub top : (j : ℕ) → j < n → marked j ≡ true → priority j ≤ priority i
   pub first : (j : ℕ) → j < i → marked j ≡ true → priority j < priority i
 
-abbrev pub Picked : ℕ → (ℕ → Bool) → (ℕ → ℕ) → Found → Type 0
-Picked n marked priority Nothing = (j : ℕ) → j < n → marked j ≡ false
-Picked n marked priority (At i) = Stands n marked priority i
+abbrev pub Picked : ℕ → (ℕ → Bool) → (ℕ → ℕ) → Option ℕ → Type 0
+Picked n marked priority None = (j : ℕ) → j < n → marked j ≡ false
+Picked n marked priority (Some i) = Stands n marked priority i
 
 module _ (marked : ℕ → Bool) (priority : ℕ → ℕ) where
   -- a walk over the rows: before the first, then row n
-  pub picked_none : Picked 0 marked priority Nothing
+  pub picked_none : Picked 0 marked priority None
   picked_none j h = absurd (omega arith)
 
-  pub picked_skip : (n : ℕ) (a : Found) → Picked n marked priority a → marked n ≡ false →
+  pub picked_skip : (n : ℕ) (a : Option ℕ) → Picked n marked priority a → marked n ≡ false →
       Picked (n + 1) marked priority a
-  picked_skip n Nothing f e = below_more (λ j. marked j ≡ false) n f e
-  picked_skip n (At i) s e =
+  picked_skip n None f e = below_more (λ j. marked j ≡ false) n f e
+  picked_skip n (Some i) s e =
       record {
         below = omega (arith, s.below);
         is = s.is;
@@ -43,7 +42,7 @@ module _ (marked : ℕ → Bool) (priority : ℕ → ℕ) where
         first = s.first;
       }
 
-  pub picked_new : (n : ℕ) → Picked n marked priority Nothing → marked n ≡ true → Picked (n + 1) marked priority (At n)
+  pub picked_new : (n : ℕ) → Picked n marked priority None → marked n ≡ true → Picked (n + 1) marked priority (Some n)
   picked_new n f e =
       record {
         below = omega arith;
@@ -54,8 +53,8 @@ module _ (marked : ℕ → Bool) (priority : ℕ → ℕ) where
         first = λ j h q. absurd (clash (marked j) q (f j h));
       }
 
-  pub picked_take : (n b : ℕ) → Picked n marked priority (At b) → marked n ≡ true → priority b < priority n →
-      Picked (n + 1) marked priority (At n)
+  pub picked_take : (n b : ℕ) → Picked n marked priority (Some b) → marked n ≡ true → priority b < priority n →
+      Picked (n + 1) marked priority (Some n)
   picked_take n b s e l =
       record {
         below = omega arith;
@@ -66,8 +65,8 @@ module _ (marked : ℕ → Bool) (priority : ℕ → ℕ) where
         first = λ j h q. omega (arith, s.top j h q);
       }
 
-  pub picked_keep : (n b : ℕ) → Picked n marked priority (At b) → priority n ≤ priority b →
-      Picked (n + 1) marked priority (At b)
+  pub picked_keep : (n b : ℕ) → Picked n marked priority (Some b) → priority n ≤ priority b →
+      Picked (n + 1) marked priority (Some b)
   picked_keep n b s l =
       record {
         below = omega (arith, s.below);
@@ -89,7 +88,7 @@ module _ (marked : ℕ → Bool) (priority : ℕ → ℕ) where
   is_higher i j e l = rw (e, lt-ltb (priority i) (priority j) l)
 
   -- who is picked is who is highest
-  pub picked_is : (n : ℕ) (a : Found) → Picked n marked priority a → a ≡ highest n marked priority
+  pub picked_is : (n : ℕ) (a : Option ℕ) → Picked n marked priority a → a ≡ highest n marked priority
   unfolding highest
   picked_is n a p =
       is_least (λ i. marked i && all_below n (λ j. not (marked j && ltb (priority i) (priority j)))) 0 n a (go a p)
@@ -105,10 +104,10 @@ module _ (marked : ℕ → Bool) (priority : ℕ → ℕ) where
           all_fails (λ j. not (marked j && ltb (priority i) (priority j))) n k h (is_higher i k e (l q))
       lower i k h e l false q = refl
 
-      go : (a : Found) → Picked n marked priority a →
+      go : (a : Option ℕ) → Picked n marked priority a →
           Searched (λ i. marked i && all_below n (λ j. not (marked j && ltb (priority i) (priority j)))) 0 n a
-      go Nothing f = miss (λ y l u. no_mark y (f y (omega arith)))
-      go (At i) s =
+      go None f = miss (λ y l u. no_mark y (f y (omega arith)))
+      go (Some i) s =
           hit
           i
           (omega arith)
@@ -121,37 +120,37 @@ module _ (marked : ℕ → Bool) (priority : ℕ → ℕ) where
           (λ y l u. lower y i s.below s.is (s.first y u) (marked y) refl)
 
   -- so the highest row is picked
-  walk : (n : ℕ) → (a : Found) × Picked n marked priority a
-  walk zero = (Nothing, picked_none)
+  walk : (n : ℕ) → (a : Option ℕ) × Picked n marked priority a
+  walk zero = (None, picked_none)
   walk (suc n) = go (walk n).0 (walk n).1 (true_or_false (marked n))
     where
-      one : (a : Found) → Picked (n + 1) marked priority a → (a : Found) × Picked (suc n) marked priority a
+      one : (a : Option ℕ) → Picked (n + 1) marked priority a → (a : Option ℕ) × Picked (suc n) marked priority a
       one a p = (a, rw (add-one n) at p)
 
-      order : (b : ℕ) → Picked n marked priority (At b) → marked n ≡ true → (t : Bool) →
-          ltb (priority b) (priority n) ≡ t → (a : Found) × Picked (suc n) marked priority a
-      order b s e true q = one (At n) (picked_take n b s e (ltb-true (priority b) (priority n) q))
-      order b s e false q = one (At b) (picked_keep n b s (ltb-false (priority b) (priority n) q))
+      order : (b : ℕ) → Picked n marked priority (Some b) → marked n ≡ true → (t : Bool) →
+          ltb (priority b) (priority n) ≡ t → (a : Option ℕ) × Picked (suc n) marked priority a
+      order b s e true q = one (Some n) (picked_take n b s e (ltb-true (priority b) (priority n) q))
+      order b s e false q = one (Some b) (picked_keep n b s (ltb-false (priority b) (priority n) q))
 
-      go : (a : Found) → Picked n marked priority a → (marked n ≡ true) ⊎ (marked n ≡ false) →
-          (a : Found) × Picked (suc n) marked priority a
+      go : (a : Option ℕ) → Picked n marked priority a → (marked n ≡ true) ⊎ (marked n ≡ false) →
+          (a : Option ℕ) × Picked (suc n) marked priority a
       go a p (inr e) = one a (picked_skip n a p e)
-      go Nothing p (inl e) = one (At n) (picked_new n p e)
-      go (At b) p (inl e) = order b p e (ltb (priority b) (priority n)) refl
+      go None p (inl e) = one (Some n) (picked_new n p e)
+      go (Some b) p (inl e) = order b p e (ltb (priority b) (priority n)) refl
 
   pub highest_picked : (n : ℕ) → Picked n marked priority (highest n marked priority)
   highest_picked n = rw (← picked_is n (walk n).0 (walk n).1) (walk n).1
 
   -- read off an answer
-  pub highest_at : (n i : ℕ) → highest n marked priority ≡ At i → Stands n marked priority i
+  pub highest_at : (n i : ℕ) → highest n marked priority ≡ Some i → Stands n marked priority i
   highest_at n i e = rw e at (highest_picked n)
 
-  pub highest_none : (n : ℕ) → highest n marked priority ≡ Nothing → (j : ℕ) → j < n → marked j ≡ false
+  pub highest_none : (n : ℕ) → highest n marked priority ≡ None → (j : ℕ) → j < n → marked j ≡ false
   highest_none n e = rw e at (highest_picked n)
 
 -- A walk that keeps the highest marked row passed, by its number and its priority, priorities being at
 -- least 1: height 0 is nothing found.
-pub found_there : (height row : ℕ) → 0 < height → found_by height row ≡ At row
+pub found_there : (height row : ℕ) → 0 < height → found_by height row ≡ Some row
 found_there zero row h = absurd (omega arith)
 found_there (suc height) row h = refl
 
@@ -176,7 +175,7 @@ module _ (marked : ℕ → Bool) (priority : ℕ → ℕ) where
     where
       go : (height : ℕ) → Picked n marked priority (found_by height row) → (0 < height → height ≡ priority row) →
           height < priority n →
-          Picked (n + 1) marked priority (At n)
+          Picked (n + 1) marked priority (Some n)
       go zero q v h = picked_new marked priority n q e
       go (suc height) q v h = picked_take marked priority n row q e (omega (arith, v (omega arith)))
 
@@ -199,10 +198,10 @@ module _ (n : ℕ) (marked : ℕ → Bool) (priority : ℕ → ℕ)
     (apart : (i j : ℕ) → i < n → j < n → (i ≡ j → ⊥) → priority i ≡ priority j → ⊥)
     (Is : ℕ → Type 0) (is : (j : ℕ) → Is j ↔ ((j < n) × (marked j ≡ true))) where
   pub highest_exactly : (i : ℕ) →
-      (highest n marked priority ≡ At i) ↔ (Is i × ((j : ℕ) → Is j → priority j ≤ priority i))
-  highest_exactly i = (to, λ p. sym (picked_is marked priority n (At i) (stands p)))
+      (highest n marked priority ≡ Some i) ↔ (Is i × ((j : ℕ) → Is j → priority j ≤ priority i))
+  highest_exactly i = (to, λ p. sym (picked_is marked priority n (Some i) (stands p)))
     where
-      to : highest n marked priority ≡ At i → Is i × ((j : ℕ) → Is j → priority j ≤ priority i)
+      to : highest n marked priority ≡ Some i → Is i × ((j : ℕ) → Is j → priority j ≤ priority i)
       to e =
           let h = highest_at marked priority n i e in
           ((is i).1 (h.below, h.is), λ j q. h.top j ((is j).0 q).0 ((is j).0 q).1)
@@ -221,12 +220,12 @@ module _ (n : ℕ) (marked : ℕ → Bool) (priority : ℕ → ℕ)
                 omega (arith, p.1 j ((is j).1 (d, q)), apart j i d b c);
           }
 
-  pub none_exactly : (highest n marked priority ≡ Nothing) ↔ ((j : ℕ) → Is j → ⊥)
+  pub none_exactly : (highest n marked priority ≡ None) ↔ ((j : ℕ) → Is j → ⊥)
   none_exactly = (
     λ e j q. clash (marked j) ((is j).0 q).1 (highest_none marked priority n e j ((is j).0 q).0),
     λ f.
         sym
-        (picked_is marked priority n Nothing
+        (picked_is marked priority n None
         (λ j l. elim (true_or_false (marked j)) [ inl e ↦ absurd (f j ((is j).1 (l, e))) | inr e ↦ e ])),
   )
 
@@ -235,15 +234,15 @@ pub highest_cong : (n : ℕ) (p q : ℕ → Bool) (priority : ℕ → ℕ) → (
     highest n p priority ≡ highest n q priority
 highest_cong n p q priority e = go (highest n p priority) refl
   where
-    go : (a : Found) → highest n p priority ≡ a → highest n p priority ≡ highest n q priority
-    go (At i) f =
+    go : (a : Option ℕ) → highest n p priority ≡ a → highest n p priority ≡ highest n q priority
+    go (Some i) f =
         let s = highest_at p priority n i f in
         f
-        ∙ picked_is q priority n (At i)
+        ∙ picked_is q priority n (Some i)
         (record {
           below = s.below;
           is = sym (e i s.below) ∙ s.is;
           top = λ j l m. s.top j l (e j l ∙ m);
           first = λ j l m. s.first j l (e j (omega (arith, s.below)) ∙ m);
         })
-    go Nothing f = f ∙ picked_is q priority n Nothing (λ j l. sym (e j l) ∙ highest_none p priority n f j l)
+    go None f = f ∙ picked_is q priority n None (λ j l. sym (e j l) ∙ highest_none p priority n f j l)

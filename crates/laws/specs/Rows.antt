@@ -1,8 +1,6 @@
 -- Rows are numbers below a count. What holds of all or some of them, their sum, the highest of
 -- them, and lists made anew row by row.
-use Rattle.std.specs.Prelude.{Bool, true, false, not, ◌&&◌, ◌||◌, List, [], ◌∷◌, ℕ, zero, suc, ◌+◌, ltb}
-use Rattle.laws.specs.declared.Found.{Found}
-use Rattle.laws.specs.declared.Found.TheVariants.{At, Nothing}
+use Rattle.std.specs.Prelude.{Bool, true, false, not, ◌&&◌, ◌||◌, List, [], ◌∷◌, ℕ, zero, suc, ◌+◌, ltb, None, Option, Some}
 use Rattle.laws.specs.Search.{least}
 
 -- each row below n passes
@@ -26,14 +24,14 @@ listed zero f = []
 listed (suc n) f = f 0 ∷ listed n (λ i. f (suc i))
 
 -- the marked row below n above which, by priority, no marked row stands
-unfoldable pub highest : ℕ → (ℕ → Bool) → (ℕ → ℕ) → Found
+unfoldable pub highest : ℕ → (ℕ → Bool) → (ℕ → ℕ) → Option ℕ
 highest n marked priority =
     least (λ i. marked i && all_below n (λ j. not (marked j && ltb (priority i) (priority j)))) 0 n
 
 -- the row that a walk found, by its priority: 0 is nothing found
-abbrev pub found_by : ℕ → ℕ → Found
-found_by zero row = Nothing
-found_by (suc height) row = At row
+abbrev pub found_by : ℕ → ℕ → Option ℕ
+found_by zero row = None
+found_by (suc height) row = Some row
 
 -- the list with each row i below n made anew by f i, the others as they were
 unfoldable pub anew : ℕ → (ℕ → ℕ → ℕ) → List ℕ → List ℕ

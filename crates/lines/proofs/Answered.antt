@@ -1,6 +1,7 @@
 -- A file served in buffers of any length, into rooms of any length, by any box, is answered as the
 -- whole file is: what stands after some buffers is what stands after their bytes, but for a line that
 -- is too long, of which only that is held. Assumes nothing.
+use Rattle.std.proofs.Common.{Option}
 use mathlib.Core.Path.{◌≡◌, refl, sym, ap, ◌∙◌}
 use mathlib.Core.Bool.{Bool, true, false, ◌||◌}
 use mathlib.Core.List.{List, [], ◌∷◌, ◌++◌, append-nil}
@@ -17,7 +18,6 @@ use Rattle.decimal.proofs.Lines.{closed_append}
 use Rattle.table.specs.declared.Refusal.{Refusal}
 use Rattle.table.specs.declared.Refusal.TheVariants.{RoomShort, Unsound}
 use Rattle.text.specs.Standing.{is_nil}
-use Rattle.events.specs.declared.EventLine.{EventLine}
 use Rattle.events.specs.Boxes.{Box, told_in, after_line_in, after_lines_in}
 use Rattle.events.proofs.Boxes.{after_append}
 use Rattle.lines.specs.declared.Held.{Held}
@@ -30,6 +30,7 @@ use Rattle.lines.specs.Night.{answer_lines_in}
 use Rattle.lines.specs.Serving.{batch, lines_at_once, Service, unserved, served_from, serve_in}
 use Rattle.lines.proofs.HeldLine.{held_again, none_held}
 use Rattle.lines.proofs.Cutting.{lines_append, left_append, alike_lines, alike_left, file_lines}
+use Rattle.events.specs.declared.Event.{Event}
 
 -- From what s is, with the line in h held, the bytes were taken and are answered by `text`; then the
 -- box holds z, and the line in k is held.
@@ -67,7 +68,7 @@ unfolding longest_answer batch
 at_least room l = omega arith
 
 module _ {S : Type 0} (b : Box S) where
-  answers_append : (s : S) (xs ys : List EventLine) →
+  answers_append : (s : S) (xs ys : List (Option Event)) →
       answer_lines_in b s (xs ++ ys) ≡ answer_lines_in b s xs ++ answer_lines_in b (after_lines_in b s xs) ys
   unfolding answer_lines_in after_lines_in
   answers_append s [] ys = refl

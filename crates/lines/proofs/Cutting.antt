@@ -1,7 +1,7 @@
 -- An event file may be cut anywhere: its lines are the same. A line is closed at the first line
 -- feed, so the loop that looks for line feeds finds what the definition says byte by byte. Assumes
 -- nothing.
-use Rattle.std.specs.Prelude.{if◌then◌else◌, if◌then◌else◌}
+use Rattle.std.specs.Prelude.{if◌then◌else◌, if◌then◌else◌, Err, None, Ok, Option, Some}
 use mathlib.Core.Path.{◌≡◌, refl, sym, ap, ◌∙◌}
 use mathlib.Core.Bool.{Bool, true, false, ◌||◌}
 use mathlib.Core.List.{List, [], ◌∷◌, ◌++◌, append_assoc, append-nil}
@@ -20,9 +20,6 @@ use Rattle.decimal.proofs.Room.{sets_append}
 use Rattle.table.specs.declared.Refusal.TheVariants.{RoomShort}
 use Rattle.text.specs.Standing.{is_nil}
 use Rattle.events.specs.declared.Event.TheVariants.{Release, Tick}
-use Rattle.events.specs.declared.EventLine.{EventLine}
-use Rattle.events.specs.declared.EventLine.TheVariants.{Of, Another}
-use Rattle.events.specs.declared.Taking.TheVariants.{Taken, Refused}
 use Rattle.events.specs.Values.{line_values, all_line_values}
 use Rattle.events.specs.Answers.{taking_number}
 use Rattle.events.proofs.Values.{line_length, line_values_length}
@@ -32,6 +29,7 @@ use Rattle.lines.specs.HeldLine.{line_in, held_of}
 use Rattle.lines.specs.Cutting.{lines_in, left_in, last_line, taken_for, Cutting}
 use Rattle.lines.specs.Cutting.{cutting, CutInto, cut_first, cut_of}
 use Rattle.lines.proofs.HeldLine.{alike_says, alike_more, none_held}
+use Rattle.events.specs.declared.Event.{Event}
 
 -- one byte: a line feed, or another
 lines_at : (l : List ℕ) (b : ℕ) (bs : List ℕ) → eqb b line_feed ≡ true → lines_in l (b ∷ bs) ≡ event_line l ∷ lines_in [] bs
@@ -98,7 +96,7 @@ alike_left l m (b ∷ bs) h = go (eqb b line_feed) refl
     go false e k = rw (left_on l b bs e, left_on m b bs e) k
 
 -- One byte more is taken.
-abbrev with_line : EventLine → ℕ → Cutting → Cutting
+abbrev with_line : Option Event → ℕ → Cutting → Cutting
 with_line x n c = record { lines = x ∷ c.lines; left = c.left; eaten = n + c.eaten }
 
 cut_at : (n : ℕ) (l : List ℕ) (b : ℕ) (bs : List ℕ) → eqb b line_feed ≡ true →
@@ -229,11 +227,11 @@ going_start h input room =
     }
 
 -- the two numbers of a line, stored
-pub stored : (d : List ℕ) (at : ℕ) (v : List ℕ) (x : EventLine) → v ≡ line_values x →
+pub stored : (d : List ℕ) (at : ℕ) (v : List ℕ) (x : Option Event) → v ≡ line_values x →
     set (set d at (get_or v 0 0)) (at + 1) (get_or v 1 0) ≡ sets d at (line_values x)
-stored d at v (Of (Release k)) e = rw (e, add-one at)
-stored d at v (Of (Tick mark)) e = rw (e, add-one at)
-stored d at v Another e = rw (e, add-one at)
+stored d at v (Some (Release k)) e = rw (e, add-one at)
+stored d at v (Some (Tick mark)) e = rw (e, add-one at)
+stored d at v None e = rw (e, add-one at)
 
 module _ (h : Held) (input room : List ℕ) (k : Held) (left : List ℕ) (at many : ℕ)
     (g : Going h input room k left at many) where
@@ -286,7 +284,7 @@ module _ (h : Held) (input room : List ℕ) (k : Held) (left : List ℕ) (at man
   done : (c : Cutting) → rest most k input at many ≡ c → c.lines ≡ [] → (held : Held) (eaten : ℕ) → held ≡ held_of
       c.left →
       eaten ≡ at + c.eaten →
-      ◌≡◌ {A = CutInto} (record { cut = record { answer = Taken; held = held; eaten = eaten; many = many }; room = left }) (cut_first h input room)
+      ◌≡◌ {A = CutInto} (record { cut = record { answer = Ok tt; held = held; eaten = eaten; many = many }; room = left }) (cut_first h input room)
   unfolding cut_first all_line_values
   done c q none held eaten a b =
       let z = cutting most (line_in h) input in
@@ -302,7 +300,7 @@ module _ (h : Held) (input room : List ℕ) (k : Held) (left : List ℕ) (at man
   -- no line feed in the rest
   pub going_rest : (e : ℕ) (held : Held) → Finds input at e → length input ≤ e → e ≤ length input → many < most →
       held ≡ held_of (line_in k ++ take (length input - at) (drop at input)) →
-      ◌≡◌ {A = CutInto} (record { cut = record { answer = Taken; held = held; eaten = e; many = many }; room = left }) (cut_first h input room)
+      ◌≡◌ {A = CutInto} (record { cut = record { answer = Ok tt; held = held; eaten = e; many = many }; room = left }) (cut_first h input room)
   going_rest e held f l b m q =
       let u : most - many ≡ suc (most - (many + 1)) = omega arith in
       let d = drop at input in
@@ -316,7 +314,7 @@ module _ (h : Held) (input room : List ℕ) (k : Held) (left : List ℕ) (at man
 
   -- no room for one more line
   pub going_full : (held : Held) → most ≤ many → held ≡ held_of (line_in k ++ take (at - at) (drop at input)) →
-      ◌≡◌ {A = CutInto} (record { cut = record { answer = Taken; held = held; eaten = at; many = many }; room = left }) (cut_first h input room)
+      ◌≡◌ {A = CutInto} (record { cut = record { answer = Ok tt; held = held; eaten = at; many = many }; room = left }) (cut_first h input room)
   going_full held m q =
       let u : most - many ≡ 0 = omega arith in
       let v : at - at ≡ 0 = omega arith in
@@ -331,7 +329,7 @@ module _ (h : Held) (input room : List ℕ) (k : Held) (left : List ℕ) (at man
 -- at the door: no byte, no room, and the rest
 pub cut_empty : (h : Held) (bytes room : List ℕ) → length bytes ≡ 0 → (held : Held) → held ≡ held_of
     (line_in h ++ bytes) →
-    ◌≡◌ {A = CutInto} (record { cut = record { answer = Taken; held = held; eaten = 0; many = 0 }; room = room })
+    ◌≡◌ {A = CutInto} (record { cut = record { answer = Ok tt; held = held; eaten = 0; many = 0 }; room = room })
     (cut_of h bytes room)
 unfolding cut_of cut_first all_line_values
 cut_empty h (b ∷ bytes) room e held q = absurd (omega arith)
@@ -339,14 +337,14 @@ cut_empty h [] room e held q = go (leb 2 (length room))
   where
     go : (t : Bool) →
         ◌≡◌ {A = CutInto}
-        (record { cut = record { answer = Taken; held = held; eaten = 0; many = 0 }; room = room })
+        (record { cut = record { answer = Ok tt; held = held; eaten = 0; many = 0 }; room = room })
         (if t || true then cut_first h [] room
-        else record { cut = record { answer = Refused RoomShort; held = h; eaten = 0; many = 0 }; room = room })
+        else record { cut = record { answer = Err RoomShort; held = h; eaten = 0; many = 0 }; room = room })
     go true = rw (cut_nothing (length room / 2) (line_in h), q, append-nil (line_in h))
     go false = rw (cut_nothing (length room / 2) (line_in h), q, append-nil (line_in h))
 
 pub cut_short : (h : Held) (bytes room : List ℕ) → (length bytes ≡ 0 → ⊥) → length room < 2 →
-    ◌≡◌ {A = CutInto} (record { cut = record { answer = Refused RoomShort; held = h; eaten = 0; many = 0 }; room = room }) (cut_of h bytes room)
+    ◌≡◌ {A = CutInto} (record { cut = record { answer = Err RoomShort; held = h; eaten = 0; many = 0 }; room = room }) (cut_of h bytes room)
 unfolding cut_of
 cut_short h [] room e l = absurd (e refl)
 cut_short h (b ∷ bytes) room e l = rw (lt-leb 2 (length room) l)
@@ -364,7 +362,7 @@ some_byte (b ∷ bytes) e = omega arith
 module _ (h : Held) (bytes room : List ℕ) where
   abbrev uncut : CutInto
   uncut =
-      record { cut = record { answer = Refused RoomShort; held = h; eaten = 0; many = 0 }; room = room }
+      record { cut = record { answer = Err RoomShort; held = h; eaten = 0; many = 0 }; room = room }
 
   abbrev Short : Type 0
   Short = (1 ≤ length bytes) × (length room < 2)

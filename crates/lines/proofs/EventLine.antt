@@ -1,7 +1,7 @@
 -- What a line says, from its bytes. An event line is a letter, a tab and a number, which has no tab
 -- and at most 11 digits. So a line that is not of this form, or is longer than the longest, is
 -- another line. Assumes nothing.
-use Rattle.std.specs.Prelude.{if◌then◌else◌}
+use Rattle.std.specs.Prelude.{if◌then◌else◌, None, Some}
 use mathlib.Core.Path.{◌≡◌, refl, sym, ap, ◌∙◌}
 use mathlib.Core.Bool.{Bool, true, false}
 use mathlib.Core.List.{List, [], ◌∷◌}
@@ -13,13 +13,11 @@ use lib.ListN.{length, get_or, drop}
 use borrow.Author.Tests.{le-leb, lt-leb, eqb-true}
 use Rattle.laws.specs.Choice.{every}
 use Rattle.laws.proofs.Choice.{clash, is_false, every_at}
-use Rattle.decimal.specs.declared.Number.TheVariants.{Value, Bad}
 use Rattle.decimal.specs.Number.{is_number, worth, read_number}
 use Rattle.decimal.specs.Lines.{tab, split, join, same}
 use Rattle.decimal.proofs.Lines.{lacks, split_part, split_whole, join_split, same_eq, number_lacks}
 use Rattle.decimal.proofs.Numbers.{number_long}
 use Rattle.events.specs.declared.Event.TheVariants.{Release, Tick}
-use Rattle.events.specs.declared.EventLine.TheVariants.{Of, Another}
 use Rattle.lines.specs.HeldLine.{longest}
 use Rattle.lines.specs.EventLine.{release_form, tick_form, event_said, event_line}
 
@@ -63,7 +61,7 @@ formed l letter w bs t e =
     }
 
 -- a line that is not of this form is another line
-not_event : (l : List ℕ) → (Formed l → ⊥) → Another ≡ event_line l
+not_event : (l : List ℕ) → (Formed l → ⊥) → None ≡ event_line l
 unfolding event_line event_said release_form tick_form
 not_event l h =
     let fs = split tab l in
@@ -72,40 +70,40 @@ not_event l h =
       is_false (every (tick_form fs)) (λ e. h (formed l 84 (inr refl) (tick_form fs) (refl, refl, refl) e)),
     )
 
-pub said_short : (l : List ℕ) → length l < 2 → Another ≡ event_line l
+pub said_short : (l : List ℕ) → length l < 2 → None ≡ event_line l
 said_short l h = not_event l (λ p. omega (arith, ap length p.line))
 
-pub said_no_tab : (l : List ℕ) → (get_or l 1 0 ≡ tab → ⊥) → Another ≡ event_line l
+pub said_no_tab : (l : List ℕ) → (get_or l 1 0 ≡ tab → ⊥) → None ≡ event_line l
 said_no_tab l h = not_event l (λ p. h (ap (λ x. get_or x 1 0) p.line))
 
-pub said_no_letter : (l : List ℕ) → (get_or l 0 0 ≡ 82 → ⊥) → (get_or l 0 0 ≡ 84 → ⊥) → Another ≡ event_line l
+pub said_no_letter : (l : List ℕ) → (get_or l 0 0 ≡ 82 → ⊥) → (get_or l 0 0 ≡ 84 → ⊥) → None ≡ event_line l
 said_no_letter l h k =
     not_event l (λ p. let e = ap (λ x. get_or x 0 0) p.line in elim
     p.known [ inl q ↦ h (e ∙ q) | inr q ↦ k (e ∙ q) ])
 
-pub long_another : (l : List ℕ) → longest < length l → Another ≡ event_line l
+pub long_another : (l : List ℕ) → longest < length l → None ≡ event_line l
 unfolding longest
 long_another l h = not_event l (λ p. omega (arith, ap length p.line, number_long p.number p.numeric))
 
 -- a number is read exactly from its form
-number_bad : (bs : List ℕ) → read_number bs ≡ Bad → is_number bs ≡ false
+number_bad : (bs : List ℕ) → read_number bs ≡ None → is_number bs ≡ false
 unfolding read_number
 number_bad bs e = go (is_number bs) refl e
   where
-    go : (b : Bool) → is_number bs ≡ b → (if b then Value (worth bs) else Bad) ≡ Bad → is_number bs ≡ false
+    go : (b : Bool) → is_number bs ≡ b → (if b then Some (worth bs) else None) ≡ None → is_number bs ≡ false
     go true q h = let z : ◌≡◌ {A = ℕ} 0 1 = cc in absurd (omega arith)
     go false q h = q
 
-number_value : (bs : List ℕ) (v : ℕ) → read_number bs ≡ Value v → (is_number bs ≡ true) × (worth bs ≡ v)
+number_value : (bs : List ℕ) (v : ℕ) → read_number bs ≡ Some v → (is_number bs ≡ true) × (worth bs ≡ v)
 unfolding read_number
 number_value bs v e = go (is_number bs) refl e
   where
-    go : (b : Bool) → is_number bs ≡ b → (if b then Value (worth bs) else Bad) ≡ Value v → (is_number bs ≡ true) ×
+    go : (b : Bool) → is_number bs ≡ b → (if b then Some (worth bs) else None) ≡ Some v → (is_number bs ≡ true) ×
         (worth bs ≡ v)
     go true q h = (q, cc)
     go false q h = let z : ◌≡◌ {A = ℕ} 0 1 = cc in absurd (omega arith)
 
-pub said_no_number : (l : List ℕ) → read_number (drop 2 l) ≡ Bad → Another ≡ event_line l
+pub said_no_number : (l : List ℕ) → read_number (drop 2 l) ≡ None → None ≡ event_line l
 said_no_number l e =
     not_event l (λ p. clash (is_number p.number) p.numeric (rw p.line at (number_bad (drop 2 l) e)))
 
@@ -114,7 +112,7 @@ pub record Found (l : List ℕ) (letter v : ℕ) : Type 0 where
   pub long : 2 ≤ length l
   pub first : get_or l 0 0 ≡ letter
   pub parted : get_or l 1 0 ≡ tab
-  pub number : read_number (drop 2 l) ≡ Value v
+  pub number : read_number (drop 2 l) ≡ Some v
 
 -- its fields are the letter and the number: neither has a tab
 found_fields : (l : List ℕ) (letter v : ℕ) → Found l letter v → lacks tab (letter ∷ []) ≡ true →
@@ -128,19 +126,19 @@ found_fields (a ∷ (b ∷ bs)) letter v f h =
     (split_part tab (letter ∷ []) bs h ∙ ap (λ r. (letter ∷ []) ∷ r)
     (split_whole tab bs (number_lacks tab bs (omega arith) n.0)))
 
-pub said_release : (l : List ℕ) (v : ℕ) → Found l 82 v → Of (Release v) ≡ event_line l
+pub said_release : (l : List ℕ) (v : ℕ) → Found l 82 v → Some (Release v) ≡ event_line l
 unfolding event_line event_said release_form every same lacks
 said_release l v f =
     let n = number_value (drop 2 l) v f.number in rw (found_fields l 82 v f refl, n.0, n.1)
 
-pub said_tick : (l : List ℕ) (v : ℕ) (mark : Bool) → Found l 84 v → v ≤ 1 → eqb v 1 ≡ mark → Of
+pub said_tick : (l : List ℕ) (v : ℕ) (mark : Bool) → Found l 84 v → v ≤ 1 → eqb v 1 ≡ mark → Some
     (Tick mark) ≡ event_line l
 unfolding event_line event_said release_form tick_form every same lacks
 said_tick l v mark f h m =
     let n = number_value (drop 2 l) v f.number in
     rw (found_fields l 84 v f refl, n.0, n.1, le-leb v 1 h, m)
 
-pub said_mark : (l : List ℕ) (v : ℕ) → Found l 84 v → 1 < v → Another ≡ event_line l
+pub said_mark : (l : List ℕ) (v : ℕ) → Found l 84 v → 1 < v → None ≡ event_line l
 unfolding event_line event_said release_form tick_form every same lacks
 said_mark l v f h =
     let n = number_value (drop 2 l) v f.number in

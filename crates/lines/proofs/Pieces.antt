@@ -1,5 +1,6 @@
 -- An event file piece by piece, answered by any box: what stands after each batch of a piece, and
 -- that the pieces of a file together are answered as the whole file is. Assumes nothing.
+use Rattle.std.proofs.Common.{Option}
 use mathlib.Core.Path.{◌≡◌, refl, sym, ap, subst, ◌∙◌}
 use mathlib.Core.Bool.{true}
 use mathlib.Core.List.{List, [], ◌∷◌, ◌++◌, append-nil, append_assoc}
@@ -13,7 +14,6 @@ use Rattle.laws.proofs.Choice.{if_ind}
 use Rattle.decimal.specs.Lines.{line_feed, closed}
 use Rattle.text.specs.declared.Reading.{Reading}
 use Rattle.text.specs.declared.Reading.TheVariants.{Taken}
-use Rattle.events.specs.declared.EventLine.{EventLine}
 use Rattle.events.specs.Boxes.{Box, after_lines_in}
 use Rattle.lines.specs.declared.Held.{Held}
 use Rattle.lines.specs.HeldLine.{line_in, held_of}
@@ -26,6 +26,7 @@ use Rattle.lines.specs.Pieces.{piece_in, last_text, written_in, joined, Ready}
 use Rattle.lines.proofs.Cutting.{taken_within}
 use Rattle.lines.proofs.HeldLine.{held_again}
 use Rattle.lines.proofs.Answered.{AnsweredBy, answered_none, answered_join, answered_more, answered_file}
+use Rattle.events.specs.declared.Event.{Event}
 
 -- of some bytes, room for n lines takes n at least
 taken_enough : (n k : ℕ) (bs : List ℕ) → n ≤ k → n ≤ length bs → n ≤ taken_for k bs
@@ -60,7 +61,7 @@ module _ {S : Type 0} (b : Box S) where
       rw (q, le-leb 140 (length room) (omega arith), most)
 
   module _ (s : S) (h : Held) (bytes : List ℕ)
-      (keeps : (ls : List EventLine) → b.sound (after_lines_in b s ls) ≡ true) where
+      (keeps : (ls : List (Option Event)) → b.sound (after_lines_in b s ls) ≡ true) where
     pub going_start : (room : List ℕ) → length bytes * 140 ≤ length room → h ≡ held_of (line_in h) →
         Going b s h bytes (length room) 0 0 room s h
     going_start room l e =

@@ -1,6 +1,6 @@
 -- Answer lines one after the other: the text of one line more, and what is handed back. Assumes
 -- nothing.
-use Rattle.std.specs.Prelude.{if◌then◌else◌}
+use Rattle.std.specs.Prelude.{if◌then◌else◌, Err, Ok}
 use mathlib.Core.Path.{◌≡◌, refl, sym, ap, ◌∙◌}
 use mathlib.Core.Bool.{Bool, true, false, ◌||◌}
 use mathlib.Core.List.{List, ◌++◌, append_assoc, append-nil}
@@ -13,7 +13,6 @@ use lib.Seq.{get_or-drop, drop-drop, drop-append_seam}
 use borrow.Author.Tests.{le-leb, lt-leb, leb-false, ne_eqb, eqb-false}
 use Rattle.laws.proofs.Choice.{if_ind, or_false}
 use Rattle.table.specs.declared.Refusal.TheVariants.{RoomShort}
-use Rattle.events.specs.declared.Taking.TheVariants.{Taken, Refused}
 use Rattle.events.specs.Values.{line_said, told_at}
 use Rattle.events.specs.Answers.{taking_number}
 use Rattle.lines.specs.AnswerLine.{answer_fields, closed_line}
@@ -49,22 +48,22 @@ text_next (suc i) values told =
 
 -- at the door: no line, no room, and the rest
 pub print_none : (values told room : List ℕ) → lines_lent values told ≡ 0 →
-    ◌≡◌ {A = PrintedInto} (record { printed = record { answer = Taken; many = 0; put = 0 }; room = room })
+    ◌≡◌ {A = PrintedInto} (record { printed = record { answer = Ok tt; many = 0; put = 0 }; room = room })
     (print_of values told room)
 unfolding print_of answer_text
 print_none values told room e = go (leb longest_answer (length room))
   where
     go : (t : Bool) →
         ◌≡◌ {A = PrintedInto}
-        (record { printed = record { answer = Taken; many = 0; put = 0 }; room = room })
+        (record { printed = record { answer = Ok tt; many = 0; put = 0 }; room = room })
         (if t || eqb (lines_lent values told) 0 then printed_first
         (min (lines_lent values told) (length room / longest_answer)) values told room
-        else record { printed = record { answer = Refused RoomShort; many = 0; put = 0 }; room = room })
+        else record { printed = record { answer = Err RoomShort; many = 0; put = 0 }; room = room })
     go true = let m : min 0 (length room / longest_answer) ≡ 0 = omega arith in rw (e, m)
     go false = let m : min 0 (length room / longest_answer) ≡ 0 = omega arith in rw (e, m)
 
 pub print_short : (values told room : List ℕ) → (lines_lent values told ≡ 0 → ⊥) → length room < longest_answer →
-    ◌≡◌ {A = PrintedInto} (record { printed = record { answer = Refused RoomShort; many = 0; put = 0 }; room = room })
+    ◌≡◌ {A = PrintedInto} (record { printed = record { answer = Err RoomShort; many = 0; put = 0 }; room = room })
     (print_of values told room)
 unfolding print_of
 print_short values told room e l =
@@ -79,7 +78,7 @@ print_long values told room l = rw (le-leb longest_answer (length room) l)
 -- no room; then the room is as it was, and never is a byte changed beyond the text.
 module _ (values told room : List ℕ) where
   abbrev unprinted : PrintedInto
-  unprinted = record { printed = record { answer = Refused RoomShort; many = 0; put = 0 }; room = room }
+  unprinted = record { printed = record { answer = Err RoomShort; many = 0; put = 0 }; room = room }
 
   abbrev Short : Type 0
   Short = (1 ≤ lines_lent values told) × (length room < longest_answer)

@@ -1,6 +1,7 @@
 -- Lines that were cut from a buffer are told to a box and printed: what stands is what the buffer is
 -- answered. Lines and what is told to them, printed from their numbers, are printed as they are.
 -- Assumes nothing.
+use Rattle.std.proofs.Common.{Err, None, Ok, Option, Result, Some}
 use mathlib.Core.Path.{◌≡◌, refl, sym, ap, ◌∙◌}
 use mathlib.Core.Bool.{true, false, ◌||◌}
 use mathlib.Core.List.{List, [], ◌∷◌, ◌++◌, append_assoc}
@@ -16,10 +17,6 @@ use Rattle.decimal.specs.Lines.{line_feed, closed}
 use Rattle.table.specs.declared.Refusal.TheVariants.{RoomShort, Unsound}
 use Rattle.text.specs.Standing.{is_nil}
 use Rattle.events.specs.declared.Event.TheVariants.{Release, Tick}
-use Rattle.events.specs.declared.EventLine.{EventLine}
-use Rattle.events.specs.declared.EventLine.TheVariants.{Of, Another}
-use Rattle.events.specs.declared.Taking.{Taking}
-use Rattle.events.specs.declared.Taking.TheVariants.{Taken, Refused}
 use Rattle.events.specs.declared.Told.{Told}
 use Rattle.events.specs.Values.{lines_said, line_values, all_line_values, told_values, all_values}
 use Rattle.events.specs.Boxes.{Box, told_in, after_line_in, told_all_in, after_lines_in}
@@ -37,17 +34,19 @@ use Rattle.lines.specs.Serving.{batch, lines_at_once, Service, unserved, serve_i
 use Rattle.lines.specs.Inner.{Fit, is_taken, answered_cut}
 use Rattle.lines.proofs.Cutting.{cut_few}
 use Rattle.lines.proofs.Print.{print_none, print_long}
+use Rattle.events.specs.declared.Event.{Event}
+use Rattle.table.specs.declared.Refusal.{Refusal}
 
-line_first : (l : EventLine) (rest : List ℕ) → first_line (line_values l ++ rest) ≡ l
-line_first (Of (Release k)) rest = refl
-line_first (Of (Tick true)) rest = refl
-line_first (Of (Tick false)) rest = refl
-line_first Another rest = refl
+line_first : (l : Option Event) (rest : List ℕ) → first_line (line_values l ++ rest) ≡ l
+line_first (Some (Release k)) rest = refl
+line_first (Some (Tick true)) rest = refl
+line_first (Some (Tick false)) rest = refl
+line_first None rest = refl
 
-line_after : (l : EventLine) (rest : List ℕ) → drop 2 (line_values l ++ rest) ≡ rest
-line_after (Of (Release k)) rest = refl
-line_after (Of (Tick mark)) rest = refl
-line_after Another rest = refl
+line_after : (l : Option Event) (rest : List ℕ) → drop 2 (line_values l ++ rest) ≡ rest
+line_after (Some (Release k)) rest = refl
+line_after (Some (Tick mark)) rest = refl
+line_after None rest = refl
 
 told_after : (x : Told) (rest : List ℕ) → drop 9 (told_values x ++ rest) ≡ rest
 told_after x rest =
@@ -55,10 +54,10 @@ told_after x rest =
 
 -- What a box tells to some lines at once: 13 is decided, or all is told, and stands at the front of
 -- the room.
-pub record Telling {S : Type 0} (b : Box S) (s : S) (ls : List EventLine) (answer : Taking) (run : S) (told : List ℕ) :
+pub record Telling {S : Type 0} (b : Box S) (s : S) (ls : List (Option Event)) (answer : Result (Unit {0}) Refusal) (run : S) (told : List ℕ) :
     Type 0 where
-  pub refused : b.sound s ≡ false → answer ≡ Refused Unsound
-  pub taken : b.sound s ≡ true → answer ≡ Taken
+  pub refused : b.sound s ≡ false → answer ≡ Err Unsound
+  pub taken : b.sound s ≡ true → answer ≡ Ok tt
   pub after : b.sound s ≡ true → run ≡ after_lines_in b s ls
   pub front : b.sound s ≡ true → take (9 * length ls) told ≡ all_values (told_all_in b s ls)
 
@@ -68,17 +67,17 @@ fronted text room = text ++ drop (length text) room
 
 module _ {S : Type 0} (b : Box S) where
   -- nine numbers for each line
-  pub told_long : (s : S) (ls : List EventLine) → length (all_values (told_all_in b s ls)) ≡ 9 * length ls
+  pub told_long : (s : S) (ls : List (Option Event)) → length (all_values (told_all_in b s ls)) ≡ 9 * length ls
   told_long s ls = omega (arith, values_length (told_all_in b s ls), told_all_length b s ls)
 
   -- which stand at the front
-  pub told_front : (s : S) (ls : List EventLine) (room : List ℕ) →
+  pub told_front : (s : S) (ls : List (Option Event)) (room : List ℕ) →
       take (9 * length ls) (all_values (told_all_in b s ls) ++ drop (9 * length ls) room) ≡ all_values (told_all_in b s ls)
   told_front s ls room =
       take_at (all_values (told_all_in b s ls)) (drop (9 * length ls) room) (9 * length ls) (told_long s ls)
 
   -- so the text of the numbers is the text of the lines
-  pub text_back : (s : S) (ls : List EventLine) →
+  pub text_back : (s : S) (ls : List (Option Event)) →
       answer_text (length ls) (all_line_values ls) (all_values (told_all_in b s ls)) ≡ closed (answer_lines_in b s ls)
   unfolding answer_text all_line_values all_values told_all_in closed answer_lines_in
   text_back s [] = refl
@@ -91,9 +90,9 @@ module _ {S : Type 0} (b : Box S) where
       (closed (answer_lines_in b (after_line_in b s l) ls)))
 
   -- A box that answered is sound.
-  module _ (s : S) (ls : List EventLine) (answer : Taking) (run : S) (told : List ℕ)
+  module _ (s : S) (ls : List (Option Event)) (answer : Result (Unit {0}) Refusal) (run : S) (told : List ℕ)
       (t : Telling b s ls answer run told) where
-    pub told_sound : answer ≡ Taken → b.sound s ≡ true
+    pub told_sound : answer ≡ Ok tt → b.sound s ≡ true
     told_sound e = go (true_or_false (b.sound s))
       where
         go : (b.sound s ≡ true) ⊎ (b.sound s ≡ false) → b.sound s ≡ true
@@ -108,7 +107,7 @@ module _ {S : Type 0} (b : Box S) where
         go (inr q) = q
 
   -- What it tells, printed.
-  printed_all : (s : S) (ls : List EventLine) (room : List ℕ) → longest_answer * length ls ≤ length room →
+  printed_all : (s : S) (ls : List (Option Event)) (room : List ℕ) → longest_answer * length ls ≤ length room →
       print_of (all_line_values ls) (all_values (told_all_in b s ls)) room
       ≡ printed_first (length ls) (all_line_values ls) (all_values (told_all_in b s ls)) room
   unfolding longest_answer answer_text
@@ -139,7 +138,7 @@ module _ {S : Type 0} (b : Box S) where
       )
 
   -- What is handed back of lines that were cut.
-  module _ (s : S) (h : Held) (c : Cut) (ls : List EventLine) (room : List ℕ) where
+  module _ (s : S) (h : Held) (c : Cut) (ls : List (Option Event)) (room : List ℕ) where
     pub cut_unsound : b.sound s ≡ false → unserved Unsound s h room ≡ answered_cut b s h c ls room
     unfolding answered_cut
     cut_unsound q = rw q
@@ -149,12 +148,12 @@ module _ {S : Type 0} (b : Box S) where
     unfolding answered_cut
     cut_refused q e = rw (q, e)
 
-    pub cut_answered : b.sound s ≡ true → c.answer ≡ Taken → (run : S) (put : ℕ) (left : List ℕ) →
+    pub cut_answered : b.sound s ≡ true → c.answer ≡ Ok tt → (run : S) (put : ℕ) (left : List ℕ) →
         run ≡ after_lines_in b s ls →
         put ≡ length (closed (answer_lines_in b s ls)) →
         left ≡ fronted (closed (answer_lines_in b s ls)) room →
         ◌≡◌ {A = Service S}
-        (record { answer = Taken; run = run; held = c.held; eaten = c.eaten; put = put; room = left })
+        (record { answer = Ok tt; run = run; held = c.held; eaten = c.eaten; put = put; room = left })
         (answered_cut b s h c ls room)
     unfolding answered_cut
     cut_answered q e run put left a p d = rw (q, e, a, p, d)
@@ -182,7 +181,7 @@ module _ (h : Held) (bytes lent : List ℕ) (room : ℕ) (long : length lent ≡
 
   cut_short : (leb longest_answer room || is_nil bytes) ≡ false →
       ◌≡◌ {A = CutInto} (record { cut = c; room = left })
-      (record { cut = record { answer = Refused RoomShort; held = h; eaten = 0; many = 0 }; room = lent })
+      (record { cut = record { answer = Err RoomShort; held = h; eaten = 0; many = 0 }; room = lent })
   unfolding cut_of
   cut_short q = e ∙ rw (same_test, q)
 
@@ -211,7 +210,7 @@ module _ (h : Held) (bytes lent : List ℕ) (room : ℕ) (long : length lent ≡
           omega (arith, ap (λ (x : CutInto). x.cut.many) (cut_taken q), cut_few (lines_at_once room) (line_in h) bytes)
       go (inr q) = omega (arith, ap (λ (x : CutInto). x.cut.many) (cut_short q))
 
-  abbrev said : List EventLine
+  abbrev said : List (Option Event)
   said = lines_said (take (2 * c.many) (left ++ more))
 
   said_taken : (leb longest_answer room || is_nil bytes) ≡ true → said ≡ whole.lines

@@ -1,7 +1,7 @@
 -- 01, One night in full: the answers as they are printed. "tick, mode, what, server, task, how the
 -- earlier job left, its task, discarded. An `idle` tick shows `-` for server and task." Lines are
 -- parted by tabs, each closed by a line feed.
-use Rattle.std.specs.Prelude.{List, [], ◌∷◌, ◌++◌, map, ℕ}
+use Rattle.std.specs.Prelude.{List, [], ◌∷◌, ◌++◌, map, ℕ, None, Option, Some}
 use Rattle.decimal.specs.Number.{digits}
 use Rattle.decimal.specs.Lines.{tab, line_feed, join}
 use Rattle.table.specs.declared.Refusal.TheVariants.{Malformed}
@@ -14,12 +14,11 @@ use Rattle.events.specs.declared.Left.{Left}
 use Rattle.events.specs.declared.Left.TheVariants.{Nobody, Done, Cut}
 use Rattle.events.specs.declared.TickAnswer.{TickAnswer}
 use Rattle.events.specs.declared.Event.TheVariants.{Release, Tick}
-use Rattle.events.specs.declared.EventLine.{EventLine}
-use Rattle.events.specs.declared.EventLine.TheVariants.{Of, Another}
 use Rattle.events.specs.declared.Told.{Told}
 use Rattle.events.specs.declared.Told.TheVariants.{No, Released, Ticked}
 use Rattle.lines.specs.Words.{release_letter, tick_letter, another_letter, ok_word, no_word, run_word}
 use Rattle.lines.specs.Words.{empty_word, idle_word, done_word, cut_word, dash, table_word, mode_word}
+use Rattle.events.specs.declared.Event.{Event}
 
 -- "what, server, task"
 abbrev pub turn_fields : Turn → List (List ℕ)
@@ -49,14 +48,14 @@ outcome (Ticked a) = tick_fields a
 outcome (No number) = no_fields number
 
 -- a release's answer repeats the task, a tick's does not repeat the mark
-abbrev pub answer_fields : EventLine → Told → List (List ℕ)
-answer_fields (Of (Release k)) x = release_letter ∷ digits k ∷ outcome x
-answer_fields (Of (Tick mark)) x = tick_letter ∷ outcome x
-answer_fields Another x = another_letter ∷ outcome x
+abbrev pub answer_fields : Option Event → Told → List (List ℕ)
+answer_fields (Some (Release k)) x = release_letter ∷ digits k ∷ outcome x
+answer_fields (Some (Tick mark)) x = tick_letter ∷ outcome x
+answer_fields None x = another_letter ∷ outcome x
 
 -- "another line .. answers `?⇥no⇥1`"
 abbrev pub another_fields : List (List ℕ)
-another_fields = answer_fields Another (No (number_of Malformed))
+another_fields = answer_fields None (No (number_of Malformed))
 
 -- "A refused table prints only `table⇥no⇥number⇥line`, for 5 with the second line after it." 02,
 -- No. 2: "with 1, 2, 3 and all of these give the field", which stands after the line.

@@ -1,5 +1,5 @@
 -- 01, One night in full: a table file and an event file, and the whole output.
-use Rattle.std.specs.Prelude.{List, [], ◌∷◌, ℕ}
+use Rattle.std.specs.Prelude.{List, [], ◌∷◌, ℕ, Option}
 use Rattle.decimal.specs.Lines.{closed}
 use Rattle.text.specs.declared.Reading.{Reading}
 use Rattle.text.specs.declared.Reading.TheVariants.{Taken, Refused, Equal}
@@ -7,24 +7,24 @@ use Rattle.text.specs.Read.{read, shown}
 use Rattle.run.specs.declared.Run.{Run}
 use Rattle.run.specs.Release.{fresh_run}
 use Rattle.run.specs.Events.{the_box}
-use Rattle.events.specs.declared.EventLine.{EventLine}
 use Rattle.events.specs.Boxes.{Box, told_in, after_line_in}
 use Rattle.lines.specs.EventLine.{event_lines}
 use Rattle.lines.specs.AnswerLine.{answer_fields, refused_fields, printed}
+use Rattle.events.specs.declared.Event.{Event}
 
 -- the answers of a box to some event lines, a line each
-unfoldable pub answer_lines_in : {S : Type 0} → Box S → S → List EventLine → List (List ℕ)
+unfoldable pub answer_lines_in : {S : Type 0} → Box S → S → List (Option Event) → List (List ℕ)
 answer_lines_in b s [] = []
 answer_lines_in b s (l ∷ ls) = printed (answer_fields l (told_in b s l)) ∷ answer_lines_in b (after_line_in b s l) ls
 
 -- "Start afresh with an accepted table and send any events"; "A refused table prints only" its one
 -- line. The same for every box, whatever its table is.
-unfoldable pub night_lines : {S : Type 0} → Box S → Reading → S → List EventLine → List (List ℕ)
+unfoldable pub night_lines : {S : Type 0} → Box S → Reading → S → List (Option Event) → List (List ℕ)
 night_lines b Taken s ls = answer_lines_in b s ls
 night_lines b (Refused why line field) s ls = printed (refused_fields (Refused why line field)) ∷ []
 night_lines b (Equal first second) s ls = printed (refused_fields (Equal first second)) ∷ []
 
-abbrev pub answer_lines : Run → List EventLine → List (List ℕ)
+abbrev pub answer_lines : Run → List (Option Event) → List (List ℕ)
 answer_lines r ls = answer_lines_in the_box r ls
 
 unfoldable pub night : List ℕ → List ℕ → List ℕ

@@ -2,21 +2,19 @@
 -- told to the box one after the other, and the lines that answer them stand at the front of the room.
 -- The next buffer is served from what is handed back, so that a file may come in buffers of any
 -- length.
-use Rattle.std.specs.Prelude.{◌||◌, List, ◌++◌, ℕ, ◌/◌, min, leb, length, drop}
+use Rattle.std.specs.Prelude.{◌||◌, List, ◌++◌, ℕ, ◌/◌, min, leb, length, drop, Err, Ok, Option, Result}
 use Rattle.laws.specs.Choice.{unless◌say◌else◌}
 use Rattle.decimal.specs.Lines.{closed}
 use Rattle.table.specs.declared.Refusal.{Refusal}
 use Rattle.table.specs.declared.Refusal.TheVariants.{RoomShort, Unsound}
 use Rattle.text.specs.Standing.{is_nil}
-use Rattle.events.specs.declared.EventLine.{EventLine}
-use Rattle.events.specs.declared.Taking.{Taking}
-use Rattle.events.specs.declared.Taking.TheVariants.{Taken, Refused}
 use Rattle.events.specs.Boxes.{Box, after_lines_in}
 use Rattle.lines.specs.declared.Held.{Held}
 use Rattle.lines.specs.HeldLine.{line_in, held_of}
 use Rattle.lines.specs.Cutting.{Cutting, cutting}
 use Rattle.lines.specs.Print.{longest_answer}
 use Rattle.lines.specs.Night.{answer_lines_in}
+use Rattle.events.specs.declared.Event.{Event}
 
 -- So many lines at most are taken at once.
 unfoldable pub batch : ℕ
@@ -30,7 +28,7 @@ lines_at_once room = min (room / longest_answer) batch
 -- how many of its bytes were taken, and how many bytes of the lent room are their answers; and that
 -- room.
 pub record Service (S : Type 0) : Type 0 where
-  pub answer : Taking
+  pub answer : Result (Unit {0}) Refusal
   pub run : S
   pub held : Held
   pub eaten : ℕ
@@ -39,14 +37,14 @@ pub record Service (S : Type 0) : Type 0 where
 
 -- nothing of a buffer is taken: what was handed in comes back, "room as it was"
 abbrev pub unserved : {S : Type 0} → Refusal → S → Held → List ℕ → Service S
-unserved why s h room = record { answer = Refused why; run = s; held = h; eaten = 0; put = 0; room = room }
+unserved why s h room = record { answer = Err why; run = s; held = h; eaten = 0; put = 0; room = room }
 
 -- the lines are answered one after the other: "A writer changes nothing beyond the text."
-abbrev pub answered_in : {S : Type 0} → Box S → S → List EventLine → Held → ℕ → List ℕ → Service S
+abbrev pub answered_in : {S : Type 0} → Box S → S → List (Option Event) → Held → ℕ → List ℕ → Service S
 answered_in b s ls held eaten room =
     let text = closed (answer_lines_in b s ls) in
     record {
-      answer = Taken;
+      answer = Ok tt;
       run = after_lines_in b s ls;
       held = held;
       eaten = eaten;

@@ -7,7 +7,7 @@
 ghost use Rattle.std.specs.Prelude.{◌≡◌, min};
 ghost use Rattle.lines.specs.Serving.{lines_at_once};
 
-use events::Taking;
+use table::Refusal;
 
 // The longest event line: a letter, a tab and 11 digits.
 pub const LONGEST_EVENT: usize = 13;
@@ -24,7 +24,7 @@ pub struct Held {
 // were taken, and how many lines they closed. (specs/Cutting.antt.)
 #[derive(Clone, Copy)]
 pub struct Cut {
-    pub answer: Taking,
+    pub answer: Result<(), Refusal>,
     pub held: Held,
     pub eaten: usize,
     pub many: usize,
@@ -37,7 +37,7 @@ pub const LONGEST_ANSWER: usize = 140;
 // room. (specs/Print.antt.)
 #[derive(Clone, Copy)]
 pub struct Printed {
-    pub answer: Taking,
+    pub answer: Result<(), Refusal>,
     pub many: usize,
     pub put: usize,
 }

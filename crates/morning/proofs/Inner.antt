@@ -2,7 +2,7 @@
 -- by induction over the ticks; for the longest row, it is the best of the rows that were met on the
 -- way. And each tick that a sound run takes fits the table's rows: who is charged is able, who left
 -- was the last-run job, and priorities are at least 1. Assumes nothing.
-use Rattle.std.specs.Prelude.{if◌then◌else◌}
+use Rattle.std.specs.Prelude.{if◌then◌else◌, None, Option, Some}
 use mathlib.Core.Path.{◌≡◌, refl, ap, sym, subst, ◌∙◌}
 use mathlib.Core.Bool.{Bool, true, false}
 use mathlib.Core.List.{List, [], ◌∷◌, ◌++◌}
@@ -11,8 +11,6 @@ use native.Mathlib.Omega.{arith}
 use lib.Dec.{ltb}
 use lib.ListN.{length, get_or, replicate, length-replicate, get_or-replicate}
 use borrow.Author.Tests.{lt-ltb}
-use Rattle.laws.specs.declared.Found.{Found}
-use Rattle.laws.specs.declared.Found.TheVariants.{At, Nothing}
 use Rattle.laws.specs.Choice.{larger}
 use Rattle.laws.proofs.Choice.{if_ind, larger_left, larger_right}
 use Rattle.laws.proofs.Rows.{any_at, none_build}
@@ -182,12 +180,12 @@ pub found_waits : (t : Table) → TableRules t → (z : State) (i : ℕ) → ltb
 unfolding top_priority highest_task waits
 found_waits t rules z i = go (highest_task t z i) refl
   where
-    go : (a : Found) → highest_task t z i ≡ a → ltb 0 (priority_found t a) ≡ waits t z i
-    go (At k) e =
+    go : (a : Option ℕ) → highest_task t z i ≡ a → ltb 0 (priority_found t a) ≡ waits t z i
+    go (Some k) e =
         let h = highest_at (waits_for t z i) (task_priority_at t) t.ntasks k e in
         lt-ltb 0 (task_priority_at t k) (omega (arith, (rules.task k h.below).priority_low)) ∙
         sym (any_at (waits_for t z i) t.ntasks k h.below h.is)
-    go Nothing e =
+    go None e =
         sym (none_build (waits_for t z i) t.ntasks (highest_none (waits_for t z i) (task_priority_at t) t.ntasks e))
 
 tick_fits : (r : Run) (mark : Bool) → RunShaped r → sound r ≡ true →

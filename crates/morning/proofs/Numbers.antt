@@ -1,6 +1,7 @@
 -- The numbers of a night, as its taken ticks tell them: what is counted from the answers, and each
 -- task's discards, is a count over the taken ticks, since every other answer counts 0. And the
 -- events of some lines and then others. Assumes nothing.
+use Rattle.std.proofs.Common.{None, Option, Some}
 use mathlib.Core.Path.{◌≡◌, refl, ap, sym, ◌∙◌}
 use mathlib.Core.List.{List, [], ◌∷◌, ◌++◌, append_assoc}
 use Prim.Native.Nat.{ℕ, ◌+◌, ◌≤◌}
@@ -13,8 +14,6 @@ use Rattle.events.specs.declared.Left.{Left}
 use Rattle.events.specs.declared.TickAnswer.{TickAnswer}
 use Rattle.events.specs.declared.Event.{Event}
 use Rattle.events.specs.declared.Event.TheVariants.{Release, Tick}
-use Rattle.events.specs.declared.EventLine.{EventLine}
-use Rattle.events.specs.declared.EventLine.TheVariants.{Of, Another}
 use Rattle.events.specs.declared.Answer.{Answer}
 use Rattle.events.specs.declared.Answer.TheVariants.{Released, Ticked, No}
 use Rattle.run.specs.declared.Answered.{Answered}
@@ -45,24 +44,24 @@ unfolding after_in
 after_append r [] fs = refl
 after_append r (e ∷ es) fs = after_append (event_of r e).run es fs
 
-pub events_append : (ks ls : List EventLine) → events_in (ks ++ ls) ≡ events_in ks ++ events_in ls
+pub events_append : (ks ls : List (Option Event)) → events_in (ks ++ ls) ≡ events_in ks ++ events_in ls
 unfolding events_in
 events_append [] ls = refl
-events_append (Of e ∷ ks) ls = ap (λ (es : List Event). e ∷ es) (events_append ks ls)
-events_append (Another ∷ ks) ls = events_append ks ls
+events_append (Some e ∷ ks) ls = ap (λ (es : List Event). e ∷ es) (events_append ks ls)
+events_append (None ∷ ks) ls = events_append ks ls
 
-pub after_lines_lem : (r : Run) (ls : List EventLine) → after_lines r ls ≡ after r (events_in ls)
+pub after_lines_lem : (r : Run) (ls : List (Option Event)) → after_lines r ls ≡ after r (events_in ls)
 unfolding after_lines_in after_in events_in
 after_lines_lem r [] = refl
-after_lines_lem r (Of e ∷ ls) = after_lines_lem (event_of r e).run ls
-after_lines_lem r (Another ∷ ls) = after_lines_lem r ls
+after_lines_lem r (Some e ∷ ls) = after_lines_lem (event_of r e).run ls
+after_lines_lem r (None ∷ ls) = after_lines_lem r ls
 
-pub ticks_among_lem : (r : Run) (ls : List EventLine) → ticks_among r ls ≡ taken_ticks r (events_in ls)
+pub ticks_among_lem : (r : Run) (ls : List (Option Event)) → ticks_among r ls ≡ taken_ticks r (events_in ls)
 unfolding ticks_among taken_ticks events_in
 ticks_among_lem r [] = refl
-ticks_among_lem r (Of e ∷ ls) =
+ticks_among_lem r (Some e ∷ ls) =
     ap (λ (ms : List TakenTick). taken_by r e (event_of r e).answer ++ ms) (ticks_among_lem (event_of r e).run ls)
-ticks_among_lem r (Another ∷ ls) = ticks_among_lem r ls
+ticks_among_lem r (None ∷ ls) = ticks_among_lem r ls
 
 -- A count over the answers.
 module _ (f : TickAnswer → ℕ) where

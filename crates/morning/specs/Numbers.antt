@@ -1,7 +1,7 @@
 -- 02, No. 1, A morning report: what each number of the page is. "All are whole numbers, counted from
 -- the run's answers and, for waiting and each task's discards, from the queues as steps 5 and 2 find
 -- them; refused lines count nowhere."
-use Rattle.std.specs.Prelude.{Bool, ◌&&◌, List, [], ◌∷◌, ℕ, suc, eqb, if◌then◌else◌}
+use Rattle.std.specs.Prelude.{Bool, ◌&&◌, List, [], ◌∷◌, ℕ, suc, eqb, if◌then◌else◌, None, Option, Some}
 use Rattle.laws.specs.Choice.{larger}
 use Rattle.table.specs.declared.Mode.{Mode}
 use Rattle.table.specs.declared.Table.{Table}
@@ -12,8 +12,6 @@ use Rattle.events.specs.declared.TickAnswer.{TickAnswer}
 use Rattle.events.specs.declared.Answer.{Answer}
 use Rattle.events.specs.declared.Answer.TheVariants.{Released, Ticked, No}
 use Rattle.events.specs.declared.Event.{Event}
-use Rattle.events.specs.declared.EventLine.{EventLine}
-use Rattle.events.specs.declared.EventLine.TheVariants.{Of, Another}
 use Rattle.run.specs.State.{waits, waiting_at}
 use Rattle.events.specs.Answers.{one, charged}
 use Rattle.table.specs.Rows.{mode_value}
@@ -23,10 +21,10 @@ use Rattle.run.specs.Count.{discarded_of}
 use Rattle.run.specs.Found.{TakenTick, taken_ticks}
 
 -- "refused lines count nowhere": another line is no event; what becomes of an event, its answer says
-unfoldable pub events_in : List EventLine → List Event
+unfoldable pub events_in : List (Option Event) → List Event
 events_in [] = []
-events_in (Of e ∷ ls) = e ∷ events_in ls
-events_in (Another ∷ ls) = events_in ls
+events_in (Some e ∷ ls) = e ∷ events_in ls
+events_in (None ∷ ls) = events_in ls
 
 -- what a taken tick counts
 abbrev pub by_tick : (TickAnswer → ℕ) → Answer → ℕ

@@ -1,12 +1,12 @@
 -- Answer lines stored one after the other: before each, those before it are stored. None has more
 -- than `line_bytes` bytes, so a room for so many holds the text. Assumes nothing.
+use Rattle.std.proofs.Common.{Ok}
 use mathlib.Core.Path.{◌≡◌, refl, sym, ap, ◌∙◌}
 use mathlib.Core.List.{List}
 use Prim.Native.Nat.{ℕ, suc, ◌+◌, ◌*◌, ◌≤◌, ◌<◌}
 use native.Mathlib.Omega.{arith}
 use lib.ListN.{length}
 use lib.Seq.{length-sets}
-use Rattle.events.specs.declared.Taking.TheVariants.{Taken}
 use Rattle.lines.specs.AnswerLine.{closed_line}
 use Rattle.lines.specs.Print.{answer_text, PrintedInto, printed_first}
 use Rattle.lines.proofs.Print.{fields_at, text_next}
@@ -47,7 +47,7 @@ module _ (n : ℕ) (values told room left : List ℕ) (at i : ℕ) (g : Printing
       }
 
   pub print_done : n ≤ i → line_bytes * n ≤ length room →
-      ◌≡◌ {A = PrintedInto} (record { printed = record { answer = Taken; many = n; put = at }; room = left })
+      ◌≡◌ {A = PrintedInto} (record { printed = record { answer = Ok tt; many = n; put = at }; room = left })
       (printed_first n values told room)
   print_done l h =
       let e : i ≡ n = omega (arith, g.within) in

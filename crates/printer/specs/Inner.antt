@@ -1,14 +1,14 @@
 -- What only the contracts of inner functions cite: an answer line stored field by field.
-use Rattle.std.specs.Prelude.{◌≡◌, List, [], ◌∷◌, ℕ, ◌+◌, ◌≤◌, length, get_or}
+use Rattle.std.specs.Prelude.{◌≡◌, List, [], ◌∷◌, ℕ, ◌+◌, ◌≤◌, length, get_or, Option}
 use Rattle.std.proofs.lemmas.List.Edits.{sets}
 use Rattle.decimal.specs.Lines.{tab, line_feed}
 use Rattle.events.specs.declared.Told.{Told}
-use Rattle.events.specs.declared.EventLine.{EventLine}
 use Rattle.events.specs.declared.TickAnswer.{TickAnswer}
 use Rattle.table.specs.Rows.{mode_said}
 use Rattle.events.specs.Values.{turn_said, left_said, line_said, told_said}
 use Rattle.printer.specs.declared.LineValues.{LineValues}
 use Rattle.printer.specs.declared.ToldValues.{ToldValues}
+use Rattle.events.specs.declared.Event.{Event}
 
 -- a lent room, and the place where its next byte goes
 pub record RoomAt : Type 0 where
@@ -92,5 +92,5 @@ abbrev pub outcome_said : ToldValues → Told
 outcome_said v =
     told_said v.kind v.number v.mode v.turn v.server v.task v.left v.leaver v.discarded
 
-abbrev pub line_of : LineValues → EventLine
+abbrev pub line_of : LineValues → Option Event
 line_of l = line_said l.kind l.value

@@ -18,7 +18,7 @@ ghost use Rattle.printer.specs.Inner.{line_bytes, refused_bytes, line_values_at,
 ghost use Rattle.printer.specs.Inner.{tick_said, outcome_said, line_of};
 
 use decimal::put::{MOST_DIGITS, put_all, spell};
-use events::{Event, EventLine, LINE_VALUES, Left, TOLD_VALUES, Taking, Turn};
+use events::{Event, LINE_VALUES, Left, TOLD_VALUES, Turn};
 use lines::{LONGEST_ANSWER, Printed};
 use table::{Mode, Refusal, number_of};
 use text::Reading;
@@ -228,11 +228,11 @@ fn store_line(line: LineValues, v: ToldValues, room: &mut [u8], at: usize) -> us
 {
     let l = said::line_said(line.kind, line.value);
     match l {
-        EventLine::Another => {
+        None => {
             let a = store_byte(b'?', room, at);
             store_outcome(v, room, a)
         }
-        EventLine::Of(e) => match e {
+        Some(e) => match e {
             Event::Tick(_) => {
                 let a = store_byte(b'T', room, at);
                 store_outcome(v, room, a)
@@ -260,7 +260,7 @@ fn print_first(n: usize, lines: &[u64], told: &[u64], room: &mut [u8]) -> Printe
         at = store_line(line, v, room, at);
     }
     Printed {
-        answer: Taking::Taken,
+        answer: Ok(()),
         many: n,
         put: at,
     }
@@ -286,14 +286,14 @@ pub fn print_lines(lines: &[u64], told: &[u64], room: &mut [u8]) -> Printed
     let n = smaller_of(lines.len() / LINE_VALUES, told.len() / TOLD_VALUES);
     if n == 0 {
         return Printed {
-            answer: Taking::Taken,
+            answer: Ok(()),
             many: 0,
             put: 0,
         };
     }
     if room.len() < LONGEST_ANSWER {
         return Printed {
-            answer: Taking::Refused(Refusal::RoomShort),
+            answer: Err(Refusal::RoomShort),
             many: 0,
             put: 0,
         };

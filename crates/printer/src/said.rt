@@ -4,7 +4,7 @@
 ghost use Rattle.std.specs.Prelude.{◌≡◌};
 ghost use Rattle.events.specs.Values.{turn_said, left_said, line_said};
 
-use events::{Event, EventLine, Left, Turn};
+use events::{Event, Left, Turn};
 
 pub(crate) fn turn_said(w: u64, server: u64, task: u64) -> Turn
     ensures { result ≡ turn_said w server task }
@@ -33,14 +33,14 @@ pub(crate) fn left_said(h: u64, task: u64) -> Left
     Left::Cut(k)
 }
 
-pub(crate) fn line_said(kind: u64, value: u64) -> EventLine
+pub(crate) fn line_said(kind: u64, value: u64) -> Option<Event>
     ensures { result ≡ line_said kind value }
 {
     if kind == 0 {
-        return EventLine::Another;
+        return None;
     }
     if kind == 1 {
-        return EventLine::Of(Event::Tick(value != 0));
+        return Some(Event::Tick(value != 0));
     }
-    EventLine::Of(Event::Release(value as usize))
+    Some(Event::Release(value as usize))
 }

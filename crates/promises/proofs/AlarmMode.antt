@@ -1,5 +1,6 @@
 -- What the rule of request No. 4 comes to: specs/AlarmMode.antt from the rules of a tick, and a cut
 -- beside a mark from the definition, whose two ticks are made of one state. Assumes nothing.
+use Rattle.std.proofs.Common.{None, Option, Some}
 use mathlib.Core.Path.{◌≡◌, refl, ap, ap₂, sym, subst, ◌∙◌}
 use mathlib.Core.Bool.{Bool, true, false}
 use mathlib.Core.List.{List, [], ◌∷◌}
@@ -18,8 +19,6 @@ use Rattle.table.specs.declared.Refusal.TheVariants.{NoJobRan, CountSpent, Unsou
 use Rattle.table.specs.declared.Table.{Table}
 use Rattle.table.specs.Rows.{task_at, limit_at}
 use Rattle.table.proofs.Rules.{table_rules}
-use Rattle.queues.specs.declared.Last.{Last}
-use Rattle.queues.specs.declared.Last.TheVariants.{NoJob, Job}
 use Rattle.events.specs.Boxes.{after_in, answers_in}
 use Rattle.run.specs.declared.State.{State}
 use Rattle.run.specs.declared.Run.{Run}
@@ -86,11 +85,11 @@ judged_else (is_cut m e h) d n = (refl, refl)
 judged_else (rises m m' l e u j) d n = absurd (n u)
 
 -- Step 1 of a tick.
-ends_up : (t : Table) (s : State) (mark : Bool) (v : Last) (m : Mode) (l : Left) → Ends t s mark v m l →
-    (m ≡ s.mode) ⊎ ((k : ℕ) × (v ≡ Job k) × (mark ≡ false) × Up t k (runs_at s k) s.mode m)
-ends_up t s mark NoJob m l e = inl e.0
-ends_up t s true (Job k) m l e = inl e.0
-ends_up t s false (Job k) m l j = elim (judging_up j) [ inl q ↦ inl q | inr q ↦ inr (k, refl, refl, q) ]
+ends_up : (t : Table) (s : State) (mark : Bool) (v : Option ℕ) (m : Mode) (l : Left) → Ends t s mark v m l →
+    (m ≡ s.mode) ⊎ ((k : ℕ) × (v ≡ Some k) × (mark ≡ false) × Up t k (runs_at s k) s.mode m)
+ends_up t s mark None m l e = inl e.0
+ends_up t s true (Some k) m l e = inl e.0
+ends_up t s false (Some k) m l j = elim (judging_up j) [ inl q ↦ inl q | inr q ↦ inr (k, refl, refl, q) ]
 
 module _ (x : OneTick) (p : ByTheRules x) where
   -- Step 3: the tick is in the mode that step 1 left, or no job waits and it is in N.
@@ -174,7 +173,7 @@ low_changes_nothing x k h ran low =
       | inl e ↦ inl e
       | inr (inl n) ↦ inr n
       | inr (inr (j, a, u)) ↦
-          let job : Job j ≡ Job k = sym a.ran ∙ ran in
+          let job : Some j ≡ Some k = sym a.ran ∙ ran in
           let same : j ≡ k = cc in
           absurd (omega (arith, u.higher, u.level, ap (λ n. height (task_at (table x) n).level) same, ap height low))
     ]
@@ -293,7 +292,7 @@ answered r safe few d =
     else unless few say refused r CountSpent
     else ticked r d
 
-module _ (r : Run) (k : ℕ) (last : r.state.last ≡ Job k) where
+module _ (r : Run) (k : ℕ) (last : r.state.last ≡ Some k) where
   abbrev few : Bool
   few = ltb r.state.ticks.0 4000000000
 
@@ -304,7 +303,7 @@ module _ (r : Run) (k : ℕ) (last : r.state.last ≡ Job k) where
   unfolding tick_of
   ended_by_mark =
       ap
-      (λ (v : Last). unless sound r say refused r Unsound
+      (λ (v : Option ℕ). unless sound r say refused r Unsound
       else unless ran_job v say refused r NoJobRan
       else unless few say refused r CountSpent
       else ticked r (tick_taken r.table r.state true))

@@ -1,7 +1,7 @@
 -- What is told of a line, by number and field. A standing makes one test after the other, and each
 -- is a question of the page, in the same order and at the same field: so the first test that fails
 -- is the first question that does not hold. Assumes nothing.
-use Rattle.std.specs.Prelude.{if◌then◌else◌}
+use Rattle.std.specs.Prelude.{if◌then◌else◌, None, Option, Some}
 use mathlib.Core.Path.{◌≡◌, refl, sym, ap, ◌∙◌}
 use mathlib.Core.Bool.{Bool, true, false, not, ◌&&◌, ◌||◌}
 use mathlib.Core.List.{List, [], ◌∷◌, ◌++◌}
@@ -13,8 +13,6 @@ use native.Mathlib.Nat.{add-zero}
 use lib.Dec.{leb, ltb, eqb, leb-suc-suc}
 use lib.ListN.{length, get_or}
 use borrow.Author.Tests.{eqb-true, eq-eqb, lt-ltb, le-ltb}
-use Rattle.laws.specs.declared.Found.{Found}
-use Rattle.laws.specs.declared.Found.TheVariants.{At, Nothing}
 use Rattle.laws.specs.Choice.{unless◌say◌else◌, within}
 use Rattle.laws.specs.Search.{first_failed}
 use Rattle.laws.proofs.Choice.{clash, true_or_false, and_left, and_right, or_true_left}
@@ -115,14 +113,14 @@ asked_from why (◌also◌ {k} {b} t ts) f = ask b why k t (asked_from why ts f)
 asked_from why (unasked ts) f = asked_from why ts f
 
 -- the first of them that fails, found at a place counted from k on
-abbrev found_from : Refusal → ℕ → Found → Standing → Standing
-found_from why k (At j) r = Broken why (k + j)
-found_from why k Nothing r = r
+abbrev found_from : Refusal → ℕ → Option ℕ → Standing → Standing
+found_from why k (Some j) r = Broken why (k + j)
+found_from why k None r = r
 
-past : (why : Refusal) (k : ℕ) (x : Found) (r : Standing) →
+past : (why : Refusal) (k : ℕ) (x : Option ℕ) (r : Standing) →
     found_from why k (one_past x) r ≡ found_from why (suc k) x r
-past why k (At j) r = let z : k + suc j ≡ suc k + j = omega arith in rw z
-past why k Nothing r = refl
+past why k (Some j) r = let z : k + suc j ≡ suc k + j = omega arith in rw z
+past why k None r = refl
 
 one_by_one : (why : Refusal) (k : ℕ) (bs : List Bool) (r : Standing) →
     found_from why k (first_failed bs) r ≡ told_from why k bs r
@@ -131,9 +129,9 @@ one_by_one why k (false ∷ bs) r = rw (failed_here bs, add-zero k)
 one_by_one why k (true ∷ bs) r =
     rw (failed_past bs) (past why k (first_failed bs) r ∙ one_by_one why (suc k) bs r)
 
-tell_first : (why : Refusal) (x : Found) (r : Standing) → (tell why at x or r) ≡ found_from why 0 x r
-tell_first why (At j) r = let z : 0 + j ≡ j = omega arith in rw z
-tell_first why Nothing r = refl
+tell_first : (why : Refusal) (x : Option ℕ) (r : Standing) → (tell why at x or r) ≡ found_from why 0 x r
+tell_first why (Some j) r = let z : 0 + j ≡ j = omega arith in rw z
+tell_first why None r = refl
 
 asked : (why : Refusal) {bs : List Bool} {qs rs : List {1} Asked} {r : Standing} →
     Asks why 0 bs qs → Told r rs → Told (tell why at first_failed bs or r) (qs ++ rs)
@@ -160,7 +158,7 @@ next_expected (suc m) (e ∷ es) k f fs =
     ap (λ bs. fits e (get_or fs k []) ∷ bs) (next_expected m es (suc k) f fs)
 
 -- of none nothing is asked
-none_there : (es : List Expected) (k : ℕ) → first_failed (expected_from 0 es k []) ≡ Nothing
+none_there : (es : List Expected) (k : ℕ) → first_failed (expected_from 0 es k []) ≡ None
 none_there [] k = failed_empty
 none_there (e ∷ es) k =
     rw (le-ltb k 0 (omega arith), failed_past (expected_from 0 es (suc k) []), none_there es (suc k))
@@ -222,15 +220,15 @@ rules_of a l =
     tell OutOfBounds at first_failed (bounds a l) or tell NotWhole at first_failed (wholes a l)
     or fault a l
 
-formed_standing : (n : ℕ) (a : Rows) (l : Line) (x : Found) → malformed_at l ≡ Nothing →
+formed_standing : (n : ℕ) (a : Rows) (l : Line) (x : Option ℕ) → malformed_at l ≡ None →
     standing n a (said_unless x l) ≡
     (unless placed n a (word_of l) say Broken Malformed 0 else tell Malformed at x or rules_of a l)
 unfolding standing
-formed_standing n a l (At field) e = refl
-formed_standing n a l Nothing e = rw e
+formed_standing n a l (Some field) e = refl
+formed_standing n a l None e = rw e
 
 formed_told : (n : ℕ) (a : Rows) (form : Form) (fs : List (List ℕ)) (l : Line) {P : Type 0}
-    {qs rs : List {1} Asked} → malformed_at l ≡ Nothing → Tests (placed n a (word_of l)) P →
+    {qs rs : List {1} Asked} → malformed_at l ≡ None → Tests (placed n a (word_of l)) P →
     Asks Malformed 0 (as_many form fs ∷ expected_by form fs) qs →
     Told (rules_of a l) rs →
     Told (standing n a (formed form fs l)) ((no 1 at 0 unless P) ∷ (qs ++ rs))

@@ -1,6 +1,6 @@
 -- A taken tick goes by the rules of specs/Condition2.antt: each step of the definition is read off
 -- its laws, and what step 5 chooses is the highest of those that are able. Assumes nothing.
-use Rattle.std.specs.Prelude.{if◌then◌else◌}
+use Rattle.std.specs.Prelude.{if◌then◌else◌, None, Option, Some}
 use mathlib.Core.Path.{◌≡◌, refl, ap, sym, ◌∙◌}
 use mathlib.Core.Bool.{Bool, true, false}
 use mathlib.Core.Logic.{◌⊎◌, inl, inr, ◌↔◌}
@@ -8,7 +8,6 @@ use Prim.Native.Nat.{ℕ, zero, suc, ◌+◌, ◌<◌}
 use native.Mathlib.Omega.{arith}
 use lib.Dec.{eqb}
 use borrow.Author.Tests.{leb-true, le-leb, eqb-true, eqb-false, eq-eqb, ne_eqb, ltb-true, ltb-false, lt-ltb}
-use Rattle.laws.specs.declared.Found.TheVariants.{At, Nothing}
 use Rattle.laws.proofs.Choice.{clash, is_false, if_ind, true_or_false, and_left, and_right, and_true}
 use Rattle.laws.specs.Rows.{any_below}
 use Rattle.laws.proofs.Rows.{any_at, any_none, any_found}
@@ -20,8 +19,6 @@ use Rattle.table.specs.Rows.{server_at, task_at, period_at, phase_at, priority_a
 use Rattle.table.specs.Rows.{is_timed}
 use Rattle.table.proofs.Rows.{timed_exactly}
 use Rattle.table.proofs.Rules.{TableRules}
-use Rattle.queues.specs.declared.Last.{Last}
-use Rattle.queues.specs.declared.Last.TheVariants.{NoJob, Job}
 use Rattle.run.specs.declared.State.{State}
 use Rattle.run.specs.declared.Run.{Run}
 use Rattle.run.specs.declared.Judged.{Judged}
@@ -91,12 +88,12 @@ judging (suc n) t k c m h =
     so : Judged → Type 0
     so j = Judging t k c m j.mode (left_by k j)
 
-ends : (t : Table) (s : State) (mark : Bool) (l : Last) →
+ends : (t : Table) (s : State) (mark : Bool) (l : Option ℕ) →
     Ends t s mark l (step1 t s mark l).state.mode (step1 t s mark l).left
 unfolding step1
-ends t s mark NoJob = (refl, refl)
-ends t s true (Job k) = (refl, refl)
-ends t s false (Job k) =
+ends t s mark None = (refl, refl)
+ends t s true (Some k) = (refl, refl)
+ends t s false (Some k) =
     let j = judge 3 (task_at t k) (runs_at s k) s.mode in
     go j.cut j.mode (judging 3 t k (runs_at s k) s.mode (omega arith))
   where
@@ -274,20 +271,20 @@ module _ (t : Table) (s : State) (mark : Bool) (rules : TableRules t) (shape : S
             cause = why (able_cause t z i p.1);
           }
 
-  server_is : (i : ℕ) → (highest_able t z ≡ At i) ↔ Highest x w i
+  server_is : (i : ℕ) → (highest_able t z ≡ Some i) ↔ Highest x w i
   unfolding highest_able
   server_is = highest_exactly t.nservers (able t z) (priority_at t) rules.servers_differ (Able x w) able_is
 
-  task_is : (i k : ℕ) → (highest_task t z i ≡ At k) ↔ HighestTask x i k
+  task_is : (i k : ℕ) → (highest_task t z i ≡ Some k) ↔ HighestTask x i k
   unfolding highest_task
   task_is i =
       highest_exactly t.ntasks (waits_for t z i) (task_priority_at t) rules.tasks_differ (Waits x i) (waits_is i)
 
-  no_server_lem : (highest_able t z ≡ Nothing) ↔ ((i : ℕ) → Able x w i → ⊥)
+  no_server_lem : (highest_able t z ≡ None) ↔ ((i : ℕ) → Able x w i → ⊥)
   unfolding highest_able
   no_server_lem = none_exactly t.nservers (able t z) (priority_at t) rules.servers_differ (Able x w) able_is
 
-  no_task_lem : (i : ℕ) → (highest_task t z i ≡ Nothing) ↔ ((k : ℕ) → Waits x i k → ⊥)
+  no_task_lem : (i : ℕ) → (highest_task t z i ≡ None) ↔ ((k : ℕ) → Waits x i k → ⊥)
   unfolding highest_task
   no_task_lem i =
       none_exactly t.ntasks (waits_for t z i) (task_priority_at t) rules.tasks_differ (Waits x i) (waits_is i)

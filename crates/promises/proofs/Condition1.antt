@@ -1,6 +1,7 @@
 -- The statements of specs/Condition1.antt, proved: each cites the law that says it. Why the
 -- reader's cases hold: Reading.antt; why a line's numbers and fields are these: Asked.antt; why the
 -- rules are these inequalities: Rules.antt. Assumes nothing.
+use Rattle.std.proofs.Common.{None, Option, Some}
 use mathlib.Core.Path.{◌≡◌, refl, sym, ap, subst, ◌∙◌}
 use mathlib.Core.Bool.{Bool, true, false, not, ◌&&◌, ◌||◌}
 use mathlib.Core.List.{[], ◌∷◌}
@@ -9,8 +10,6 @@ use Prim.Native.Nat.{ℕ, ◌≤◌, ◌<◌}
 use native.Mathlib.Omega.{arith}
 use lib.Dec.{ltb}
 use Rattle.laws.specs.Choice.{unless◌say◌else◌}
-use Rattle.laws.specs.declared.Found.{Found}
-use Rattle.laws.specs.declared.Found.TheVariants.{At, Nothing}
 use Rattle.laws.proofs.Choice.{true_or_false, le_or_lt}
 use Rattle.table.specs.declared.Mode.{Mode}
 use Rattle.table.specs.declared.Table.{Table}
@@ -254,9 +253,9 @@ module _ (t : Table) (m : Mode) (i : ℕ) where
       ∷ (0, (table_keeps t ≡ true) × (i < t.nservers))
       ∷ [])
 
-  told_0 : (f : Found) → verdict_number (told f) ≡ 0
-  told_0 (At r) = refl
-  told_0 Nothing = refl
+  told_0 : (f : Option ℕ) → verdict_number (told f) ≡ 0
+  told_0 (Some r) = refl
+  told_0 None = refl
 
   served_0 : table_keeps t ≡ true → i < t.nservers → verdict_number (verdict_of t i m) ≡ 0
   served_0 e h = ap verdict_number (verdict_told t m i e h) ∙ told_0 (response_at t m i)

@@ -1,6 +1,7 @@
 -- Request No. 5, proved: each statement of specs/Fits.antt from its facts. The answer says one of
 -- three things and whatever says one of them is the answer (crate verdict, Fitting.antt). Assumes
 -- nothing.
+use Rattle.std.proofs.Common.{None, Option, Some}
 use mathlib.Core.Path.{◌≡◌, refl, sym, ap, ◌∙◌}
 use mathlib.Core.Bool.{Bool, true, false}
 use mathlib.Core.List.{[], ◌∷◌}
@@ -8,8 +9,6 @@ use mathlib.Core.Logic.{◌⊎◌, inl, inr, ◌↔◌}
 use Prim.Native.Nat.{ℕ, ◌≤◌, ◌<◌}
 use native.Mathlib.Omega.{arith}
 use lib.ListN.{length, get_or}
-use Rattle.laws.specs.declared.Found.{Found}
-use Rattle.laws.specs.declared.Found.TheVariants.{At, Nothing}
 use Rattle.laws.proofs.Choice.{true_or_false, clash}
 use Rattle.table.specs.declared.Mode.{Mode}
 use Rattle.table.specs.declared.Mode.TheVariants.{N}
@@ -140,10 +139,10 @@ without_capacity_never t m i z q =
     let s = ((misses_exactly t m i).0 l.missed).0 in
     omega (arith, s.some)
 
-responds : (t : Table) (m : Mode) (i : ℕ) (f : Found) → verdict_of t i m ≡ told f →
+responds : (t : Table) (m : Mode) (i : ℕ) (f : Option ℕ) → verdict_of t i m ≡ told f →
     (verdict_of t i m ≡ Misses → ⊥) → (R : ℕ) × (verdict_of t i m ≡ Response (record { 0 = R })) × (R ≤ period_at t i)
-responds t m i (At r) e h = (r, e, response_in_period t m i (record { 0 = r }) e)
-responds t m i Nothing e h = absurd (h e)
+responds t m i (Some r) e h = (r, e, response_in_period t m i (record { 0 = r }) e)
+responds t m i None e h = absurd (h e)
 
 pub all_respond : AllRespond
 all_respond t m i q h =

@@ -1,4 +1,5 @@
 -- Request No. 6, proved: each statement of specs/FrameBox.antt from its facts. Assumes nothing.
+use Rattle.std.proofs.Common.{None, Option, Some}
 use mathlib.Core.Path.{◌≡◌, refl, sym, ap, subst, ◌∙◌}
 use mathlib.Core.Bool.{Bool, true, false, ◌&&◌}
 use mathlib.Core.List.{List}
@@ -8,8 +9,6 @@ use native.Mathlib.Omega.{arith}
 use lib.Dec.{eqb}
 use lib.ListN.{length}
 use borrow.Author.Tests.{ltb-true, lt-ltb, eqb-true, eq-eqb}
-use Rattle.laws.specs.declared.Found.{Found}
-use Rattle.laws.specs.declared.Found.TheVariants.{At, Nothing}
 use Rattle.laws.proofs.Choice.{if_ind, clash, and_left, and_right, and_true, within_high}
 use Rattle.laws.proofs.Highest.{highest_exactly, none_exactly}
 use Rattle.text.specs.Read.{reading_number}
@@ -23,8 +22,6 @@ use Rattle.events.specs.declared.TickAnswer.{TickAnswer}
 use Rattle.events.specs.declared.Turn.TheVariants.{Run as Ran, Empty}
 use Rattle.events.specs.Answers.{no_of, starting_number}
 use Rattle.events.specs.Boxes.{after_in}
-use Rattle.queues.specs.declared.Last.{Last}
-use Rattle.queues.specs.declared.Last.TheVariants.{NoJob, Job}
 use Rattle.queues.specs.Queues.{waits_in, turn_of}
 use Rattle.frametable.specs.declared.FrameTable.{FrameTable}
 use Rattle.frametable.specs.Inner.{FrameSized}
@@ -78,23 +75,23 @@ pub frame_as_it_was : FrameAsItWas
 frame_as_it_was = refused_as_it_was
 
 -- What a turn says is what was found.
-turn_run : (p : ℕ) (f : Found) (k : ℕ) → (turn_of p f ≡ Ran p k) ↔ (f ≡ At k)
-turn_run p (At j) k = (λ e. let q : j ≡ k = cc in ap At q, λ e. let q : j ≡ k = cc in ap (Ran p) q)
-turn_run p Nothing k = (
+turn_run : (p : ℕ) (f : Option ℕ) (k : ℕ) → (turn_of p f ≡ Ran p k) ↔ (f ≡ Some k)
+turn_run p (Some j) k = (λ e. let q : j ≡ k = cc in ap Some q, λ e. let q : j ≡ k = cc in ap (Ran p) q)
+turn_run p None k = (
   λ e. let z : ◌≡◌ {A = ℕ} 0 1 = cc in absurd (omega arith),
   λ e. let z : ◌≡◌ {A = ℕ} 0 1 = cc in absurd (omega arith),
 )
 
-turn_empty : (p : ℕ) (f : Found) → (turn_of p f ≡ Empty p) ↔ (f ≡ Nothing)
-turn_empty p (At j) = (
+turn_empty : (p : ℕ) (f : Option ℕ) → (turn_of p f ≡ Empty p) ↔ (f ≡ None)
+turn_empty p (Some j) = (
   λ e. let z : ◌≡◌ {A = ℕ} 0 1 = cc in absurd (omega arith),
   λ e. let z : ◌≡◌ {A = ℕ} 0 1 = cc in absurd (omega arith),
 )
-turn_empty p Nothing = (λ e. refl, λ e. refl)
+turn_empty p None = (λ e. refl, λ e. refl)
 
-turn_either : (p : ℕ) (f : Found) → (turn_of p f ≡ Empty p) ⊎ ((k : ℕ) × (turn_of p f ≡ Ran p k))
-turn_either p (At j) = inr (j, refl)
-turn_either p Nothing = inl refl
+turn_either : (p : ℕ) (f : Option ℕ) → (turn_of p f ≡ Empty p) ⊎ ((k : ℕ) × (turn_of p f ≡ Ran p k))
+turn_either p (Some j) = inr (j, refl)
+turn_either p None = inl refl
 
 -- Of partition p, the highest task with a waiting job, said of what waits.
 module _ (t : FrameTable) (s : FrameState) (p : ℕ)
@@ -119,11 +116,11 @@ module _ (t : FrameTable) (s : FrameState) (p : ℕ)
       )
 
   found_exactly : (k : ℕ) →
-      (highest_task t s p ≡ At k) ↔ (Is k × ((j : ℕ) → Is j → frame_priority_at t j ≤ frame_priority_at t k))
+      (highest_task t s p ≡ Some k) ↔ (Is k × ((j : ℕ) → Is j → frame_priority_at t j ≤ frame_priority_at t k))
   unfolding highest_task marked
   found_exactly k = highest_exactly t.ntasks marked (frame_priority_at t) apart Is is k
 
-  nothing_exactly : (highest_task t s p ≡ Nothing) ↔ ((j : ℕ) → Is j → ⊥)
+  nothing_exactly : (highest_task t s p ≡ None) ↔ ((j : ℕ) → Is j → ⊥)
   unfolding highest_task marked
   nothing_exactly = none_exactly t.ntasks marked (frame_priority_at t) apart Is is
 
@@ -173,14 +170,14 @@ each_tick r mark a sized =
 
 -- Who leaves, by the mark and the last-run job.
 module _ (t : FrameTable) (s : FrameState) (k : ℕ) where
-  abbrev Leaves : Bool → Last → Settled → Type 0
+  abbrev Leaves : Bool → Option ℕ → Settled → Type 0
   Leaves mark l z =
-      ((z.left ≡ Done k) ↔ ((mark ≡ true) × (l ≡ Job k))) ×
-      ((z.left ≡ Cut k) ↔ ((mark ≡ false) × (l ≡ Job k) × (runs_at s k ≡ frame_limit_at t k)))
+      ((z.left ≡ Done k) ↔ ((mark ≡ true) × (l ≡ Some k))) ×
+      ((z.left ≡ Cut k) ↔ ((mark ≡ false) × (l ≡ Some k) × (runs_at s k ≡ frame_limit_at t k)))
 
-  settle_leaves : (mark : Bool) (l : Last) → Leaves mark l (settle t s mark l)
+  settle_leaves : (mark : Bool) (l : Option ℕ) → Leaves mark l (settle t s mark l)
   unfolding settle
-  settle_leaves mark NoJob = (
+  settle_leaves mark None = (
     (
       λ e. let z : ◌≡◌ {A = ℕ} 0 1 = cc in absurd (omega arith),
       λ q. let e = q.1 in let z : ◌≡◌ {A = ℕ} 0 1 = cc in absurd (omega arith),
@@ -190,15 +187,15 @@ module _ (t : FrameTable) (s : FrameState) (k : ℕ) where
       λ q. let e = q.1 in let z : ◌≡◌ {A = ℕ} 0 1 = cc in absurd (omega arith),
     ),
   )
-  settle_leaves true (Job j) = (
-    (λ e. let q : j ≡ k = cc in (refl, ap Job q), λ q. let e = q.1 in let d : j ≡ k = cc in ap Done d),
+  settle_leaves true (Some j) = (
+    (λ e. let q : j ≡ k = cc in (refl, ap Some q), λ q. let e = q.1 in let d : j ≡ k = cc in ap Done d),
     (
       λ e. let z : ◌≡◌ {A = ℕ} 0 1 = cc in absurd (omega arith),
       λ q. absurd (clash true refl q.0),
     ),
   )
-  settle_leaves false (Job j) =
-      if_ind (Leaves false (Job j)) (eqb (runs_at s j) (frame_limit_at t j))
+  settle_leaves false (Some j) =
+      if_ind (Leaves false (Some j)) (eqb (runs_at s j) (frame_limit_at t j))
       (λ b. (
         (
           λ e. let z : ◌≡◌ {A = ℕ} 0 1 = cc in absurd (omega arith),
@@ -207,7 +204,7 @@ module _ (t : FrameTable) (s : FrameState) (k : ℕ) where
         (
           λ e.
               let d : j ≡ k = cc in
-              (refl, ap Job d, subst (λ i. runs_at s i ≡ frame_limit_at t i) d (eqb-true (runs_at s j) (frame_limit_at t j) b)),
+              (refl, ap Some d, subst (λ i. runs_at s i ≡ frame_limit_at t i) d (eqb-true (runs_at s j) (frame_limit_at t j) b)),
           λ q. let e = q.1 in let d : j ≡ k = cc in ap Cut d,
         ),
       ))
@@ -233,9 +230,9 @@ each_leaving r mark a e k =
     tick_ind
     (λ (x : FrameAnswered).
     x.answer ≡ Ticked a →
-    ((a.left ≡ Done k) ↔ ((mark ≡ true) × (r.state.last ≡ Job k))) ×
+    ((a.left ≡ Done k) ↔ ((mark ≡ true) × (r.state.last ≡ Some k))) ×
     ((a.left ≡ Cut k) ↔
-    ((mark ≡ false) × (r.state.last ≡ Job k) × (runs_at r.state k ≡ frame_limit_at r.table k))))
+    ((mark ≡ false) × (r.state.last ≡ Some k) × (runs_at r.state k ≡ frame_limit_at r.table k))))
     r
     mark
     (λ why q. let z : ◌≡◌ {A = ℕ} 0 1 = cc in absurd (omega arith))
@@ -243,9 +240,9 @@ each_leaving r mark a e k =
     let d : (tick_taken r.table r.state mark).answer ≡ a = cc in
     subst
     (λ (b : TickAnswer).
-    ((b.left ≡ Done k) ↔ ((mark ≡ true) × (r.state.last ≡ Job k))) ×
+    ((b.left ≡ Done k) ↔ ((mark ≡ true) × (r.state.last ≡ Some k))) ×
     ((b.left ≡ Cut k) ↔
-    ((mark ≡ false) × (r.state.last ≡ Job k) × (runs_at r.state k ≡ frame_limit_at r.table k))))
+    ((mark ≡ false) × (r.state.last ≡ Some k) × (runs_at r.state k ≡ frame_limit_at r.table k))))
     d
     (settle_leaves r.table r.state k mark r.state.last))
     e

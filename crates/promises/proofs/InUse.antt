@@ -1,6 +1,6 @@
 -- What is answered rests on the rows in use alone: so does each test of an event, and what a tick
 -- does is settled by its rules. Assumes nothing.
-use Rattle.std.specs.Prelude.{if◌then◌else◌}
+use Rattle.std.specs.Prelude.{if◌then◌else◌, None, Option, Some}
 use mathlib.Core.Path.{fun_ext, ◌≡◌, refl, ap, ap₂, sym, ◌∙◌}
 use mathlib.Core.Bool.{Bool, true, not, ◌&&◌, ◌||◌}
 use mathlib.Core.List.{List, [], ◌∷◌}
@@ -9,7 +9,6 @@ use Prim.Native.Nat.{ℕ, ◌+◌, ◌≤◌, ◌<◌}
 use native.Mathlib.Omega.{arith}
 use lib.Dec.{leb, ltb, eqb}
 use borrow.Author.Tests.{ltb-true, le-ltb, lt-ltb}
-use Rattle.laws.specs.declared.Found.TheVariants.{At}
 use Rattle.laws.specs.Choice.{every, within}
 use Rattle.laws.specs.Search.{least}
 use Rattle.laws.specs.Rows.{all_below, sum_below}
@@ -26,8 +25,6 @@ use Rattle.table.proofs.Rules.{table_rules}
 use Rattle.text.specs.Write.{wrote}
 use Rattle.verdict.specs.Verdict.{interference, meets, response_at, verdict_of}
 use Rattle.verdict.proofs.Interference.{interference_above}
-use Rattle.queues.specs.declared.Last.{Last}
-use Rattle.queues.specs.declared.Last.TheVariants.{NoJob, Job}
 use Rattle.events.specs.Boxes.{after_in, answers_in}
 use Rattle.run.specs.declared.Run.{Run}
 use Rattle.events.specs.declared.Event.{Event}
@@ -81,7 +78,7 @@ module _ {t u : Table} (h : SameRows t u) where
       let e = server_same h i l in
       let meet = fun_ext (λ (R : ℕ). ap₂ (λ (a : Server) (n : ℕ). leb ((in_mode a.capacity m).0 + n) R) e (interference_same m i l R)) in
       ap₂
-      (λ (a : Server) (p : ℕ → Bool). if eqb (in_mode a.capacity m).0 0 then At 0 else least p 1 a.period.0)
+      (λ (a : Server) (p : ℕ → Bool). if eqb (in_mode a.capacity m).0 0 then Some 0 else least p 1 a.period.0)
       e
       meet
 
@@ -112,10 +109,10 @@ module _ {r q : Run} (h : SameInUse r q) where
       let limit = ap₂ (λ (a : Task) (m : Mode). (in_mode a.limit m).0) e h.mode in
       rw (h.waiting k l, h.runs k l, limit, e, h.mode, h.last)
 
-  last_test : (v : Last) → sound_last r.table r.state v ≡ sound_last q.table q.state v
+  last_test : (v : Option ℕ) → sound_last r.table r.state v ≡ sound_last q.table q.state v
   unfolding sound_last every
-  last_test NoJob = refl
-  last_test (Job k) =
+  last_test None = refl
+  last_test (Some k) =
       elim (le_or_lt r.table.ntasks k) [
         | inl g ↦ rw (le-ltb k r.table.ntasks g, le-ltb k q.table.ntasks (omega (arith, h.tables.ntasks)))
         | inr l ↦ rw (h.waiting k l, h.runs k l, h.ticks, h.tables.ntasks)
@@ -221,7 +218,7 @@ module _ (r q : Run) (shape : RunShaped r) (shape' : RunShaped q) (h : SameInUse
       safe = sym (sound_same h)
 
       job : mark_taken q mark ≡ mark_taken r mark
-      job = ap (λ (v : Last). not mark || ran_job v) (sym h.last)
+      job = ap (λ (v : Option ℕ). not mark || ran_job v) (sym h.last)
 
       count : counts_on q.state.ticks.0 ≡ counts_on r.state.ticks.0
       count = ap (λ (n : Ticks). counts_on n.0) (sym h.ticks)

@@ -2,6 +2,7 @@
 -- the taken ticks, one after the other: each is in one mode, charges one server or is idle, and is an
 -- empty turn only of a timed server. A refused line takes no tick and leaves the run as it was.
 -- Assumes nothing.
+use Rattle.std.proofs.Common.{None, Option, Some}
 use mathlib.Core.Path.{◌≡◌, refl, ap, sym, subst, ◌∙◌}
 use mathlib.Core.Bool.{Bool, true, false}
 use mathlib.Core.List.{List, [], ◌∷◌, ◌++◌}
@@ -31,8 +32,6 @@ use Rattle.events.specs.declared.Turn.{Turn}
 use Rattle.events.specs.declared.Turn.TheVariants.{Run as Ran, Empty, Idle}
 use Rattle.events.specs.declared.Event.{Event}
 use Rattle.events.specs.declared.Event.TheVariants.{Release, Tick}
-use Rattle.events.specs.declared.EventLine.{EventLine}
-use Rattle.events.specs.declared.EventLine.TheVariants.{Of, Another}
 use Rattle.events.specs.declared.Answer.{Answer}
 use Rattle.events.specs.declared.Answer.TheVariants.{Released, Ticked, No}
 use Rattle.run.specs.declared.Answered.{Answered}
@@ -294,12 +293,12 @@ none_taken r (Release k) a why q = refl
 none_taken r (Tick mark) a why q = rw q
 
 -- the ticks taken and the run after refused lines and then others are those of the others
-gone : (r : Run) (ls : List EventLine) (fs : List Event) → AllRefused r ls →
+gone : (r : Run) (ls : List (Option Event)) (fs : List Event) → AllRefused r ls →
     (taken_ticks r (events_in ls ++ fs) ≡ taken_ticks r fs) × (after r (events_in ls ++ fs) ≡ after r fs)
 unfolding taken_ticks after_in events_in
 gone r [] fs h = (refl, refl)
-gone r (Another ∷ ls) fs h = gone r ls fs h.1
-gone r (Of e ∷ ls) fs h =
+gone r (None ∷ ls) fs h = gone r ls fs h.1
+gone r (Some e ∷ ls) fs h =
     let w = refused_why (event_of r e).answer h.0 in
     let same = refused_as_it_was r e w.0 w.1 in
     let q = gone (event_of r e).run ls fs h.1 in (

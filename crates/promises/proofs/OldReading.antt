@@ -1,7 +1,7 @@
 -- Nothing but number 4 and the field moved: each line says what it said, its number is the old one,
 -- 41 to 45 being 4, and its row is the same; so line by line the text is told as before. A test
 -- that asks nothing of a field changes nothing where every test is asked. Assumes nothing.
-use Rattle.std.specs.Prelude.{if◌then◌else◌}
+use Rattle.std.specs.Prelude.{if◌then◌else◌, None, Option, Some}
 use mathlib.Core.Path.{◌≡◌, refl}
 use mathlib.Core.Bool.{Bool, true, false, not, ◌&&◌, and_assoc}
 use mathlib.Core.List.{List, [], ◌∷◌}
@@ -10,8 +10,6 @@ use native.Mathlib.Omega.{arith}
 use lib.Dec.{leb, eqb, leb-zero, leb-suc-zero, leb-suc-suc}
 use lib.ListN.{length}
 use borrow.Author.Tests.{ne_eqb}
-use Rattle.laws.specs.declared.Found.{Found}
-use Rattle.laws.specs.declared.Found.TheVariants.{At, Nothing}
 use Rattle.laws.specs.Choice.{unless◌say◌else◌, every, within}
 use Rattle.laws.specs.Search.{first_failed, is_found}
 use Rattle.laws.proofs.Choice.{if_ind}
@@ -19,8 +17,6 @@ use Rattle.laws.proofs.Search.{all_hold}
 use Rattle.decimal.specs.Lines.{tab, line_feed, split, same}
 use Rattle.table.specs.declared.ByMode.{ByMode}
 use Rattle.table.specs.declared.Server.{Server}
-use Rattle.table.specs.declared.Pair.{Pair}
-use Rattle.table.specs.declared.Pair.TheVariants.{Equal, Differ}
 use Rattle.table.specs.declared.Refusal.{Refusal}
 use Rattle.table.specs.declared.Refusal.TheVariants.{Malformed as MalformedWhy, OutOfBounds}
 use Rattle.table.specs.declared.Refusal.TheVariants.{NotWhole, AbsentRow, OtherPartition}
@@ -86,10 +82,10 @@ formed_before : (form : Form) (fs : List (List ℕ)) (said : Line) →
 formed_before form fs said =
     rw (← has_form form fs, all_hold (form_tests form fs)) (go (first_failed (form_tests form fs)))
   where
-    go : (x : Found) →
+    go : (x : Option ℕ) →
         before (said_unless x said) ≡ (if not (is_found x) then before said else old_malformed)
-    go (At field) = refl
-    go Nothing = refl
+    go (Some field) = refl
+    go None = refl
 
 line_before : (fs : List (List ℕ)) → before (line_of fs) ≡ old_line_of fs
 unfolding line_of line_by old_line_of
@@ -126,7 +122,7 @@ tests_before : (p : Bool) (bs cs : List Bool) (f : Standing) →
 tests_before p bs cs f =
     rw (all_hold bs, all_hold cs) (go p (first_failed bs) (first_failed cs))
   where
-    go : (q : Bool) (x y : Found) →
+    go : (q : Bool) (x y : Option ℕ) →
         number
         (unless q say Broken MalformedWhy 0 else tell OutOfBounds at x or tell NotWhole at y or f) ≡
         (unless q say 1
@@ -134,9 +130,9 @@ tests_before p bs cs f =
         else unless not (is_found y) say 3
         else number f)
     go false x y = refl
-    go true (At field) y = refl
-    go true Nothing (At field) = refl
-    go true Nothing Nothing = refl
+    go true (Some field) y = refl
+    go true None (Some field) = refl
+    go true None None = refl
 
 -- 41 to 45: absent rows and falling limits are parted by field
 fault_before : (ss : List Server) (home degraded : ℕ) (limit : ByMode) →
@@ -199,10 +195,10 @@ grown_before a (OfTask k) = refl
 grown_before a (Malformed word field) = refl
 
 -- The text: what is said where nothing is refused is as before, so all is.
-pair_before : (top : ℕ) (x : Pair) (r : ReadRows) (o : OldAnswer) → as_before r ≡ o →
+pair_before : (top : ℕ) (x : Option (ℕ × ℕ)) (r : ReadRows) (o : OldAnswer) → as_before r ≡ o →
     as_before (pair_said top x r) ≡ old_pair_said top x o
-pair_before top (Equal i j) r o e = refl
-pair_before top Differ r o e = e
+pair_before top (Some (i, j)) r o e = refl
+pair_before top None r o e = e
 
 compared_before : (a : Rows) → as_before (compared a) ≡ old_compared a
 unfolding compared old_compared

@@ -1,7 +1,7 @@
 -- Servers that start late: what specs/Phases.antt states, proved. Before its phase a server has no
 -- capacity in force, so it is not able; a verdict reads no phase; and with all phases 0 each test that
 -- looks at one is passed. Assumes nothing.
-use Rattle.std.specs.Prelude.{if◌then◌else◌}
+use Rattle.std.specs.Prelude.{if◌then◌else◌, Option, Some}
 use mathlib.Core.Path.{fun_ext, ◌≡◌, refl, ap, ap₂, sym, subst, ◌∙◌}
 use mathlib.Core.Bool.{Bool, true, false, ◌&&◌}
 use mathlib.Core.List.{List, [], ◌∷◌, ◌++◌}
@@ -12,8 +12,6 @@ use lib.Dec.{leb, ltb, eqb}
 use lib.ListN.{length, get_or, take, length-drop, length-take, get_or-map}
 use lib.Seq.{get_or-drop, get_or-take}
 use borrow.Author.Tests.{le-leb, lt-leb, lt-ltb, eqb-true}
-use Rattle.laws.specs.declared.Found.{Found}
-use Rattle.laws.specs.declared.Found.TheVariants.{At}
 use Rattle.laws.specs.Choice.{unless◌say◌else◌, every, within}
 use Rattle.laws.specs.Search.{least}
 use Rattle.laws.specs.Rows.{listed}
@@ -240,13 +238,13 @@ module _ (t u : Table) (h : all_at_once t ≡ all_at_once u) where
       let meet =
       fun_ext (λ (R : ℕ). ap₂ (λ (c n : ℕ). leb (c + n) R) (capacity m i) (asks m i R)) in
       rw (capacity m i, period i)
-      (ap (λ (p : ℕ → Bool). if eqb (capacity_at u m i) 0 then At 0 else least p 1 (period_at u i)) meet)
+      (ap (λ (p : ℕ → Bool). if eqb (capacity_at u m i) 0 then Some 0 else least p 1 (period_at u i)) meet)
 
   verdict : table_keeps t ≡ true → table_keeps u ≡ true → (i : ℕ) (m : Mode) → verdict_of t i m ≡ verdict_of u i m
   unfolding verdict_of
   verdict e g i m =
       rw (e, g)
-      (ap₂ (λ (n : ℕ) (a : Found). unless ltb i n say No NoServer else told a) count (response m i))
+      (ap₂ (λ (n : ℕ) (a : Option ℕ). unless ltb i n say No NoServer else told a) count (response m i))
 
   fit : table_keeps t ≡ true → table_keeps u ≡ true → fits_of t ≡ fits_of u
   unfolding fits_of verdicts_of

@@ -1,6 +1,6 @@
 -- The reader's cases: each gives its number, its line and its field, for 5 both lines, and every
 -- text is in one of them, so each is given exactly in its case. Assumes nothing.
-use Rattle.std.specs.Prelude.{if◌then◌else◌}
+use Rattle.std.specs.Prelude.{if◌then◌else◌, None, Option, Some}
 use mathlib.Core.Path.{◌≡◌, refl, sym, ap, subst, ◌∙◌}
 use mathlib.Core.Bool.{Bool, true, false}
 use mathlib.Core.List.{List, [], ◌∷◌, ◌++◌, map}
@@ -17,8 +17,6 @@ use Rattle.table.specs.declared.Refusal.{Refusal}
 use Rattle.table.specs.declared.Refusal.TheVariants.{Malformed as MalformedWhy}
 use Rattle.table.specs.declared.Standing.{Standing}
 use Rattle.table.specs.declared.Standing.TheVariants.{Kept, Broken}
-use Rattle.table.specs.declared.Pair.{Pair}
-use Rattle.table.specs.declared.Pair.TheVariants.{Equal as EqualRows, Differ}
 use Rattle.table.specs.Refusals.{standing_number, standing_field}
 use Rattle.table.specs.Rows.{Rows, no_rows, no_server, no_task}
 use Rattle.table.specs.Pairs.{equal_servers as pairOfServers, equal_tasks as pairOfTasks}
@@ -170,15 +168,15 @@ module _ (text : List ℕ) where
   of_tasks : Complete text → Stretch is_task text (2 + servers) tasks task_priority
   of_tasks c = tasks-stretch text rows (lines_are c)
 
-  servers_differ : Complete text → NoneEqual is_server text → pairOfServers rows.servers ≡ Differ
+  servers_differ : Complete text → NoneEqual is_server text → pairOfServers rows.servers ≡ None
   servers_differ c d =
       let f = none_rows is_server text 2 servers server_priority (of_servers c) d in
-      sym (is_pair servers server_priority Differ f)
+      sym (is_pair servers server_priority None f)
 
-  tasks_differ : Complete text → NoneEqual is_task text → pairOfTasks rows.tasks ≡ Differ
+  tasks_differ : Complete text → NoneEqual is_task text → pairOfTasks rows.tasks ≡ None
   tasks_differ c d =
       let f = none_rows is_task text (2 + servers) tasks task_priority (of_tasks c) d in
-      sym (is_pair tasks task_priority Differ f)
+      sym (is_pair tasks task_priority None f)
 
   -- a first part that does not stand is told, with its line and its field
   first_fault_told : (n : ℕ) → length text ≤ 16384 → n < many → StandAbove text (suc n) →
@@ -215,14 +213,14 @@ module _ (text : List ℕ) where
       let r = first_rows is_server text 2 servers server_priority (of_servers c) x y f in
       let u : 2 + (x - 2) ≡ x = omega (arith, r.0) in
       let v : 2 + (y - 2) ≡ y = omega (arith, r.0, r.1) in
-      let p = is_pair servers server_priority (EqualRows (x - 2) (y - 2)) r.2 in
+      let p = is_pair servers server_priority (Some ((x - 2), (y - 2))) r.2 in
       rw (read_complete c, ← p, u, v) ((refl, refl), inr (omega arith, refl))
   case_told k values (equal_tasks x y c d f) =
       let top = 2 + servers in
       let r = first_rows is_task text top tasks task_priority (of_tasks c) x y f in
       let u : top + (x - top) ≡ x = omega (arith, r.0) in
       let v : top + (y - top) ≡ y = omega (arith, r.0, r.1) in
-      let p = is_pair tasks task_priority (EqualRows (x - top) (y - top)) r.2 in
+      let p = is_pair tasks task_priority (Some ((x - top), (y - top))) r.2 in
       rw (read_complete c, servers_differ c d, ← p, u, v) ((refl, refl), inr (omega arith, refl))
   case_told k values (taken c d e) =
       rw (read_complete c, servers_differ c d, tasks_differ c e) ((refl, refl), inl refl)
@@ -231,20 +229,20 @@ module _ (text : List ℕ) where
   SomeCase = (k : ℕ) × (values : List ℕ) × ReadCase text k values
 
   -- a complete text is taken, or a pair of lines is equal
-  task_case : Complete text → NoneEqual is_server text → (q : Pair) → Paired tasks task_priority q →
+  task_case : Complete text → NoneEqual is_server text → (q : Option (ℕ × ℕ)) → Paired tasks task_priority q →
       SomeCase
-  task_case c d (EqualRows i j) f =
+  task_case c d (Some (i, j)) f =
       let top = 2 + servers in
       let first = first_lines is_task text top tasks task_priority (of_tasks c) i j f in
       (5, (top + i) ∷ (top + j) ∷ [], equal_tasks (top + i) (top + j) c d first)
-  task_case c d Differ f =
+  task_case c d None f =
       (0, [], taken c d (none_lines is_task text (2 + servers) tasks task_priority (of_tasks c) f))
 
-  pair_case : Complete text → (q : Pair) → Paired servers server_priority q → SomeCase
-  pair_case c (EqualRows i j) f =
+  pair_case : Complete text → (q : Option (ℕ × ℕ)) → Paired servers server_priority q → SomeCase
+  pair_case c (Some (i, j)) f =
       let first = first_lines is_server text 2 servers server_priority (of_servers c) i j f in
       (5, (2 + i) ∷ (2 + j) ∷ [], equal_servers (2 + i) (2 + j) c first)
-  pair_case c Differ f =
+  pair_case c None f =
       let d = none_lines is_server text 2 servers server_priority (of_servers c) f in
       task_case c d (pairOfTasks rows.tasks) (pair_is tasks task_priority)
 

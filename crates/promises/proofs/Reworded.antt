@@ -1,5 +1,6 @@
 -- Condition 2, and what requests No. 4 and No. 5 come to, with one of its words changed is false,
 -- each time by a run or an answer that is computed. Assumes nothing.
+use Rattle.std.proofs.Common.{Some}
 use mathlib.Core.Path.{◌≡◌, refl, ap}
 use mathlib.Core.Bool.{Bool, true, false}
 use mathlib.Core.List.{List, [], ◌∷◌}
@@ -21,7 +22,6 @@ use Rattle.verdict.specs.declared.Fits.TheVariants.{Yes, Miss}
 use Rattle.verdict.specs.Verdict.{interference, verdict_of}
 use Rattle.verdict.specs.Fits.{verdicts_of, is_miss, least_row, from_verdicts, fits_of}
 use Rattle.verdict.proofs.Cases.{three}
-use Rattle.queues.specs.declared.Last.TheVariants.{Job}
 use Rattle.run.specs.declared.Run.{Run}
 use Rattle.events.specs.declared.Turn.TheVariants.{Run as Ran}
 use Rattle.events.specs.declared.Left.TheVariants.{Nobody, Done, Cut}
@@ -73,7 +73,7 @@ needs_the_degraded f =
 pub needs_judging_again :
     OfTicks
     (λ r mark a.
-    (k : ℕ) → mark ≡ false → r.state.last ≡ Job k → r.state.mode ≡ N →
+    (k : ℕ) → mark ≡ false → r.state.last ≡ Some k → r.state.mode ≡ N →
     runs_at r.state k ≡ limit_at r.table N k → a.left ≡ Nobody) →
     ⊥
 unfolding computed
@@ -120,7 +120,7 @@ levels_sized = record { servers = refl; tasks = refl }
 pub needs_the_level :
     OfTicks
     (λ r mark a.
-    (k : ℕ) → mark ≡ false → r.state.last ≡ Job k → r.state.mode ≡ N →
+    (k : ℕ) → mark ≡ false → r.state.last ≡ Some k → r.state.mode ≡ N →
     runs_at r.state k ≡ limit_at r.table N k → (runs_at r.state k ≡ limit_at r.table D1 k → ⊥) →
     a.left ≡ Nobody) →
     ⊥
@@ -138,7 +138,7 @@ needs_the_level f =
 pub needs_a_low_job :
     OfTicks
     (λ r mark a.
-    (k : ℕ) → r.state.last ≡ Job k → (task_at r.table k).level ≡ MI →
+    (k : ℕ) → r.state.last ≡ Some k → (task_at r.table k).level ≡ MI →
     (a.mode ≡ r.state.mode) ⊎ (a.mode ≡ N)) →
     ⊥
 unfolding computed
@@ -156,7 +156,7 @@ needs_a_low_job f =
 -- "costs one cut": of a job whose level lies above the mode it costs none. The HI job at its limit
 -- in N stays.
 pub needs_a_level_not_above :
-    ((r : Run) (k : ℕ) (a : Answer) → r.state.last ≡ Job k →
+    ((r : Run) (k : ℕ) (a : Answer) → r.state.last ≡ Some k →
     runs_at r.state k ≡ limit_at r.table r.state.mode k → LiesAbove r.table k r.state.mode →
     (tick_of r false).answer ≡ a → a ≡ left_as (Cut k) a) →
     ⊥
@@ -169,7 +169,7 @@ needs_a_level_not_above f =
 
 -- and it is told as cut, not as finished
 pub needs_cut_told :
-    ((r : Run) (k : ℕ) (a : Answer) → r.state.last ≡ Job k →
+    ((r : Run) (k : ℕ) (a : Answer) → r.state.last ≡ Some k →
     runs_at r.state k ≡ limit_at r.table r.state.mode k → (LiesAbove r.table k r.state.mode → ⊥) →
     (tick_of r false).answer ≡ a → a ≡ left_as (Done k) a) →
     ⊥

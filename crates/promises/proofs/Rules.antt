@@ -1,5 +1,6 @@
 -- The rules of a table, of a state and of task times, as inequalities: each test holds exactly if
 -- its inequality does. Assumes nothing.
+use Rattle.std.proofs.Common.{None, Option, Some}
 use mathlib.Core.Path.{◌≡◌, refl, ap, subst}
 use mathlib.Core.Bool.{Bool, true, false, ◌&&◌}
 use mathlib.Core.List.{List, [], ◌∷◌}
@@ -30,8 +31,6 @@ use Rattle.table.specs.Rows.{rows_of, is_low, is_d2, no_server, no_task, task_at
 use Rattle.table.specs.Rules.{server_keeps, task_keeps, task_fault, task_stands, keeps, table_keeps}
 use Rattle.table.proofs.Pairs.{differ_at, differ_build}
 use Rattle.units.specs.declared.Micros.{Micros}
-use Rattle.text.specs.declared.LastField.{LastField}
-use Rattle.text.specs.declared.LastField.TheVariants.{Absent, Given}
 use Rattle.text.specs.declared.ServerLine.{ServerLine}
 use Rattle.text.specs.declared.TaskLine.{TaskLine}
 use Rattle.text.specs.declared.Line.{Line}
@@ -40,8 +39,6 @@ use Rattle.text.specs.Line.{no_line, read_line}
 use Rattle.text.specs.Write.{task_times_whole, all_lines, times_whole, not_zero, phase_not_zero, no_phase_zero}
 use Rattle.text.proofs.Refused.{standing_0}
 use Rattle.text.proofs.RoundTrip.{nothing_said}
-use Rattle.queues.specs.declared.Last.{Last}
-use Rattle.queues.specs.declared.Last.TheVariants.{NoJob, Job}
 use Rattle.run.specs.declared.State.{State}
 use Rattle.queues.specs.Queues.{is_last}
 use Rattle.run.proofs.Sound.{TaskSound, JobSound, LastSound, sound_exactly}
@@ -138,12 +135,12 @@ table_exactly t =
     (λ e. let r = g.0 e in (r.0, r.1.0, r.1.1), λ r. g.1 (r.0, (r.1, r.2)))
 
 -- A state's clauses.
-last_is : (l : Last) (k : ℕ) → Tests (is_last l k) (l ≡ Job k)
-last_is NoJob k = (
+last_is : (l : Option ℕ) (k : ℕ) → Tests (is_last l k) (l ≡ Some k)
+last_is None k = (
   λ e. absurd (clash false e refl),
   λ e. let z : ◌≡◌ {A = ℕ} 0 1 = cc in absurd (omega arith),
 )
-last_is (Job j) k = (λ e. ap Job (eqb-true j k e), λ e. let z : j ≡ k = cc in eq-eqb j k z)
+last_is (Some j) k = (λ e. ap Some (eqb-true j k e), λ e. let z : j ≡ k = cc in eq-eqb j k z)
 
 is_d2_lem : (m : Mode) → Tests (is_d2 m) (m ≡ D2)
 is_d2_lem N = (λ e. absurd (clash false e refl), λ e. ap is_d2 e)
@@ -184,9 +181,9 @@ sound_last_lem t s = (to, λ f. back s.last refl f)
         let j : JobSound t s k = subst (LastSound t s) e f in
         j.below and j.waits and j.ran and j.tick and tt
 
-    back : (l : Last) → s.last ≡ l → SoundLast t s → LastSound t s l
-    back NoJob e f = tt
-    back (Job k) e f =
+    back : (l : Option ℕ) → s.last ≡ l → SoundLast t s → LastSound t s l
+    back None e f = tt
+    back (Some k) e f =
         let p = f k e in
         record { below = p.0; waits = p.1.0; ran = p.1.1.0; tick = p.1.1.1.0 }
 
@@ -252,20 +249,20 @@ task_times t (Malformed word field) = (λ e k q. no_task_lem (Malformed word fie
 no_server_lem : {A : Type 0} (l : Line) (s : ServerLine) → is_server l ≡ false → l ≡ OfServer s → A
 no_server_lem l s f e = absurd (clash (is_server l) (ap is_server e) f)
 
-not_zero_lem : (p : LastField) → Tests (not_zero p) (p ≡ Given (record { 0 = 0 }) → ⊥)
-not_zero_lem Absent = (λ e q. let z : ◌≡◌ {A = ℕ} 0 1 = cc in omega arith, λ f. refl)
-not_zero_lem (Given u) = (
+not_zero_lem : (p : Option Micros) → Tests (not_zero p) (p ≡ Some (record { 0 = 0 }) → ⊥)
+not_zero_lem None = (λ e q. let z : ◌≡◌ {A = ℕ} 0 1 = cc in omega arith, λ f. refl)
+not_zero_lem (Some u) = (
   λ e q.
       let z : u ≡ record { 0 = 0 } = cc in
       clash (eqb u.0 0) (eq-eqb u.0 0 (ap (λ (x : Micros). x.0) z)) (not-true (eqb u.0 0) e),
-  λ f. rw (is_false (eqb u.0 0) (λ e. f (ap Given (of_none u (eqb-true u.0 0 e))))),
+  λ f. rw (is_false (eqb u.0 0) (λ e. f (ap Some (of_none u (eqb-true u.0 0 e))))),
 )
   where
     of_none : (x : Micros) → x.0 ≡ 0 → x ≡ record { 0 = 0 }
     of_none x e = rw (← e)
 
 phase_written : (l : Line) →
-    Tests (phase_not_zero l) ((s : ServerLine) → l ≡ OfServer s → s.phase ≡ Given (record { 0 = 0 }) → ⊥)
+    Tests (phase_not_zero l) ((s : ServerLine) → l ≡ OfServer s → s.phase ≡ Some (record { 0 = 0 }) → ⊥)
 phase_written (OfTick u) = (λ e s q. no_server_lem (OfTick u) s refl q, λ f. refl)
 phase_written (OfServer x) = (
   λ e s q. let z : x ≡ s = cc in rw (← z) ((not_zero_lem x.phase).0 e),

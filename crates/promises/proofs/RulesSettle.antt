@@ -1,5 +1,6 @@
 -- The rules of a tick settle it: they speak of the rows in use alone, and leave no choice. Assumes
 -- nothing.
+use Rattle.std.proofs.Common.{None, Option, Some}
 use mathlib.Core.Path.{◌≡◌, refl, ap, ap₂, sym, ◌∙◌}
 use mathlib.Core.Bool.{Bool, true, false}
 use mathlib.Core.Logic.{◌⊎◌, inl, inr}
@@ -18,8 +19,6 @@ use Rattle.table.specs.declared.Table.{Table}
 use Rattle.units.specs.declared.Ticks.{Ticks}
 use Rattle.table.specs.Rows.{Rows, rows_of, no_server, no_task, server_at, task_at, period_at, phase_at, in_mode}
 use Rattle.table.specs.Rows.{limit_at}
-use Rattle.queues.specs.declared.Last.{Last}
-use Rattle.queues.specs.declared.Last.TheVariants.{NoJob, Job}
 use Rattle.run.specs.declared.State.{State}
 use Rattle.run.specs.declared.Run.{Run}
 use Rattle.events.specs.declared.Turn.{Turn}
@@ -95,13 +94,13 @@ judging_same t u k c {m} e i j =
       sym a.1 ∙ ap (left_by k) same ∙ b.1,
     )
 
-ends_same : (t u : Table) (s z : State) (mark : Bool) (v : Last) {m m' : Mode} {l l' : Left} → LastSound t s v →
+ends_same : (t u : Table) (s z : State) (mark : Bool) (v : Option ℕ) {m m' : Mode} {l l' : Left} → LastSound t s v →
     ((k : ℕ) → k < t.ntasks → task_at t k ≡ task_at u k) → s.mode ≡ z.mode →
     ((k : ℕ) → k < t.ntasks → runs_at s k ≡ runs_at z k) →
     Ends t s mark v m l → Ends u z mark v m' l' → (m ≡ m') × (l ≡ l')
-ends_same t u s z mark NoJob q tasks mode runs a b = (a.0 ∙ mode ∙ sym b.0, a.1 ∙ sym b.1)
-ends_same t u s z true (Job k) q tasks mode runs a b = (a.0 ∙ mode ∙ sym b.0, a.1 ∙ sym b.1)
-ends_same t u s z false (Job k) {m} {m'} {l} {l'} q tasks mode runs a b =
+ends_same t u s z mark None q tasks mode runs a b = (a.0 ∙ mode ∙ sym b.0, a.1 ∙ sym b.1)
+ends_same t u s z true (Some k) q tasks mode runs a b = (a.0 ∙ mode ∙ sym b.0, a.1 ∙ sym b.1)
+ends_same t u s z false (Some k) {m} {m'} {l} {l'} q tasks mode runs a b =
     judging_same t u k (runs_at s k) (tasks k q.below) a
     (rw (mode, runs k q.below) b)
 
@@ -356,13 +355,13 @@ module _ (x y : OneTick) (safe : sound x.before ≡ true) (marks : x.mark ≡ y.
           p.step6.kept k l e n ∙ h.runs k l ∙
           sym (q.step6.kept k (task k l) (sym (left k) ∙ e) (λ d. n (back k l d)))
 
-  last : (v : Last) → (new y).last ≡ v → (new x).last ≡ v
-  last (Job k) e = let f = (q.says.last k).0 e in (p.says.last k).1 (f.0, turn ∙ f.1)
-  last NoJob e = go (new x).last refl
+  last : (v : Option ℕ) → (new y).last ≡ v → (new x).last ≡ v
+  last (Some k) e = let f = (q.says.last k).0 e in (p.says.last k).1 (f.0, turn ∙ f.1)
+  last None e = go (new x).last refl
     where
-      go : (v : Last) → (new x).last ≡ v → (new x).last ≡ NoJob
-      go NoJob d = d
-      go (Job k) d =
+      go : (v : Option ℕ) → (new x).last ≡ v → (new x).last ≡ None
+      go None d = d
+      go (Some k) d =
           let f = (p.says.last k).0 d in
           let c = (q.says.last k).1 (f.0, sym turn ∙ f.1) in
           let z : ◌≡◌ {A = ℕ} 0 1 = cc in

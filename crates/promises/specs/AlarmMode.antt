@@ -4,14 +4,13 @@
 -- lies above the present one, N counting as LO and D1 as MI; otherwise it is cut." Condition2.antt
 -- has the rule; here is what it comes to, of every tick that is taken and of a run with any events.
 -- proofs/AlarmMode.antt proves it.
-use Rattle.std.specs.Prelude.{◌≡◌, true, false, List, [], ◌∷◌, ◌⊎◌, ℕ, ◌≤◌, ◌<◌}
+use Rattle.std.specs.Prelude.{◌≡◌, true, false, List, [], ◌∷◌, ◌⊎◌, ℕ, ◌≤◌, ◌<◌, Some}
 use Rattle.table.specs.declared.Level.TheVariants.{LO, MI, HI}
 use Rattle.table.specs.declared.Mode.{Mode}
 use Rattle.table.specs.declared.Mode.TheVariants.{N, D1, D2}
 use Rattle.table.specs.declared.Table.{Table}
 use Rattle.table.specs.Inner.{Sized}
 use Rattle.table.specs.Rows.{task_at, limit_at}
-use Rattle.queues.specs.declared.Last.TheVariants.{Job}
 use Rattle.run.specs.declared.Run.{Run}
 use Rattle.events.specs.declared.Event.{Event}
 use Rattle.events.specs.declared.Event.TheVariants.{Release, Tick}
@@ -31,7 +30,7 @@ mode_height m = height (counts_as m)
 
 -- The job of task k is at its limit: it ran in the last taken tick and is not ended by mark.
 pub record AtLimit (x : OneTick) (k : ℕ) : Type 0 where
-  pub ran : (old x).last ≡ Job k
+  pub ran : (old x).last ≡ Some k
   pub mark : x.mark ≡ false
   pub limit : runs_at (old x) k ≡ limit_at (table x) (old x).mode k
 
@@ -79,7 +78,7 @@ FallsToN =
 -- A LO job never changes the mode.
 abbrev pub LowChangesNothing : Type 0
 LowChangesNothing =
-    (x : OneTick) (k : ℕ) → IsTaken x → (old x).last ≡ Job k → (task_at (table x) k).level ≡ LO → Stays x
+    (x : OneTick) (k : ℕ) → IsTaken x → (old x).last ≡ Some k → (task_at (table x) k).level ≡ LO → Stays x
 
 -- "otherwise it is cut", and the mode stays
 abbrev pub ElseCut : Type 0
@@ -134,7 +133,7 @@ pub record OneCut (r : Run) (k : ℕ) (es : List Event) (a : Answer) (rest : Lis
 abbrev pub CostsOneCut : Type 0
 CostsOneCut =
     (r : Run) (k : ℕ) (es : List Event) (a : Answer) (rest : List Answer) →
-    r.state.last ≡ Job k → runs_at r.state k ≡ limit_at r.table r.state.mode k →
+    r.state.last ≡ Some k → runs_at r.state k ≡ limit_at r.table r.state.mode k →
     (LiesAbove r.table k r.state.mode → ⊥) →
     answers r (Tick false ∷ es) ≡ a ∷ rest → OneCut r k es a rest
 
@@ -142,6 +141,6 @@ CostsOneCut =
 abbrev pub LowFaultInN : Type 0
 LowFaultInN =
     (r : Run) (k : ℕ) (es : List Event) (a : Answer) (rest : List Answer) →
-    r.state.last ≡ Job k → r.state.mode ≡ N → (task_at r.table k).level ≡ LO →
+    r.state.last ≡ Some k → r.state.mode ≡ N → (task_at r.table k).level ≡ LO →
     runs_at r.state k ≡ limit_at r.table N k →
     answers r (Tick false ∷ es) ≡ a ∷ rest → OneCut r k es a rest

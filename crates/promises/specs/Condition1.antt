@@ -11,7 +11,7 @@
 -- ReadThenWrite; EachVerdict, EachCut, EachPrint; and on texts worked out by hand AnswerLines,
 -- TableLines, DegradedLines, PairLines.
 -- proofs/Condition1.antt proves them, with Reading, Asked and Rules beside it.
-use Rattle.std.specs.Prelude.{◌≡◌, Bool, true, false, List, [], ◌∷◌, ◌++◌, map, ◌⊎◌, ◌↔◌, ℕ, ◌+◌, ◌*◌, ◌-◌, ◌%◌, ◌≤◌, ◌<◌, length, get_or, take, drop}
+use Rattle.std.specs.Prelude.{◌≡◌, Bool, true, false, List, [], ◌∷◌, ◌++◌, map, ◌⊎◌, ◌↔◌, ℕ, ◌+◌, ◌*◌, ◌-◌, ◌%◌, ◌≤◌, ◌<◌, length, get_or, take, drop, None, Some}
 use Prim.Native.String.{String}
 use Rattle.laws.specs.Quoted.{bytes, lined}
 use Rattle.laws.specs.Rows.{sum_below}
@@ -34,7 +34,6 @@ use Rattle.table.specs.Rows.{period_at, phase_at, limit_at, largest}
 use Rattle.table.specs.Rules.{task_fault, table_keeps}
 use Rattle.text.specs.declared.Word.{Word}
 use Rattle.text.specs.declared.Word.TheVariants.{ATick, AServer, ATask, Unknown}
-use Rattle.text.specs.declared.LastField.TheVariants.{Given}
 use Rattle.text.specs.declared.ServerLine.{ServerLine}
 use Rattle.text.specs.declared.TaskLine.{TaskLine}
 use Rattle.text.specs.declared.Line.{Line}
@@ -48,7 +47,6 @@ use Rattle.text.specs.Write.{Wrote, write, writing_number, writing_values, wrote
 use Rattle.verdict.specs.declared.Verdict.{Verdict}
 use Rattle.verdict.specs.declared.Verdict.TheVariants.{Response, Misses, No}
 use Rattle.verdict.specs.Verdict.{verdict_of}
-use Rattle.queues.specs.declared.Last.TheVariants.{NoJob, Job}
 use Rattle.run.specs.declared.State.{State}
 use Rattle.run.specs.declared.Run.{Run}
 use Rattle.run.specs.declared.Begun.{Begun}
@@ -481,7 +479,7 @@ SoundTask t s k =
     ∷ (waiting_at s k ≡ 0 → runs_at s k ≡ 0)
     ∷ (1 ≤ waiting_at s k →
     (runs_at s k < limit_at t s.mode k)
-    ⊎ ((s.last ≡ Job k) × (runs_at s k ≡ limit_at t s.mode k)))
+    ⊎ ((s.last ≡ Some k) × (runs_at s k ≡ limit_at t s.mode k)))
     ∷ (s.mode ≡ D2 → (task_at t k).level ≡ LO → waiting_at s k ≡ 0)
     ∷ [])
 
@@ -489,7 +487,7 @@ SoundTask t s k =
 -- taken"
 abbrev pub SoundLast : Table → State → Type 0
 SoundLast t s =
-    (k : ℕ) → s.last ≡ Job k →
+    (k : ℕ) → s.last ≡ Some k →
     All ((k < t.ntasks) ∷ (1 ≤ waiting_at s k) ∷ (1 ≤ runs_at s k) ∷ (1 ≤ s.ticks.0) ∷ [])
 
 -- "A state is sound (else 13) if its table keeps the rules; ..; the counts of taken ticks and
@@ -550,7 +548,7 @@ EachRelease = (r : Run) (k : ℕ) → ReleaseNumbers r k (release_number r k)
 
 -- A TICK. "tick 9, 10"
 abbrev pub NoJobRan : Run → Bool → Type 0
-NoJobRan r mark = (mark ≡ true) × (r.state.last ≡ NoJob)
+NoJobRan r mark = (mark ≡ true) × (r.state.last ≡ None)
 
 pub record TickNumbers (r : Run) (mark : Bool) (number : ℕ) : Type 0 where
   pub no_13 : (number ≡ 13) ↔ (sound r ≡ false)
@@ -667,7 +665,7 @@ TimesWhole t text =
 -- "no phase 0 was written"
 abbrev pub NoPhaseZero : List ℕ → Type 0
 NoPhaseZero text =
-    (n : ℕ) (s : ServerLine) → 1 ≤ n → line_at text n ≡ OfServer s → s.phase ≡ Given (record { 0 = 0 }) → ⊥
+    (n : ℕ) (s : ServerLine) → 1 ≤ n → line_at text n ≡ OfServer s → s.phase ≡ Some (record { 0 = 0 }) → ⊥
 
 -- "Reading then writing gives the same text exactly when each task time was whole ticks." No. 7:
 -- "01's rule on reading then writing also asks that no phase 0 was written".

@@ -2,7 +2,7 @@
 -- the one job run. Every verdict is the least response that meets the stated inequality, "misses"
 -- exactly if none does within the period. From a fresh start, jobs released = finished + cut +
 -- discarded + waiting, counted from the answers given." proofs/Condition2.antt proves it.
-use Rattle.std.specs.Prelude.{◌≡◌, Bool, true, false, List, ◌⊎◌, ◌↔◌, ℕ, ◌+◌, ◌*◌, ◌-◌, ◌≤◌, ◌<◌, length}
+use Rattle.std.specs.Prelude.{◌≡◌, Bool, true, false, List, ◌⊎◌, ◌↔◌, ℕ, ◌+◌, ◌*◌, ◌-◌, ◌≤◌, ◌<◌, length, None, Option, Some}
 use Rattle.laws.specs.Rows.{sum_below}
 use Rattle.laws.specs.RoundUp.{up}
 use Rattle.table.specs.declared.Kind.TheVariants.{Event as EventKind, Timed}
@@ -16,8 +16,6 @@ use Rattle.table.specs.Rules.{table_keeps}
 use Rattle.table.specs.Inner.{Sized}
 use Rattle.verdict.specs.declared.Verdict.TheVariants.{Response, Misses}
 use Rattle.verdict.specs.Verdict.{interference, verdict_of}
-use Rattle.queues.specs.declared.Last.{Last}
-use Rattle.queues.specs.declared.Last.TheVariants.{NoJob, Job}
 use Rattle.run.specs.declared.State.{State}
 use Rattle.run.specs.declared.Run.{Run}
 use Rattle.events.specs.declared.Event.{Event}
@@ -52,7 +50,7 @@ pub record Fresh (t : Table) (r : Run) : Type 0 where
   pub elapsed : (i : ℕ) → elapsed_at r.state i ≡ 0
   pub waiting : (k : ℕ) → waiting_at r.state k ≡ 0
   pub runs : (k : ℕ) → runs_at r.state k ≡ 0
-  pub last : r.state.last ≡ NoJob
+  pub last : r.state.last ≡ None
   pub ticks : r.state.ticks.0 ≡ 0
   pub accepted : r.state.accepted ≡ 0
 
@@ -128,13 +126,13 @@ pub data Judging (t : Table) (k c : ℕ) : Mode → Mode → Left → Type 0 whe
   is_cut : (m : Mode) → c ≡ limit_at t m k → (LiesAbove t k m → ⊥) → Judging t k c m m (Cut k)
 
 -- by the mark and the last-run job: mode m is reached, and l is the job that left
-abbrev pub Ends : Table → State → Bool → Last → Mode → Left → Type 0
+abbrev pub Ends : Table → State → Bool → Option ℕ → Mode → Left → Type 0
 -- "step 1 only if the last taken tick ran a job"
-Ends t s mark NoJob m l = (m ≡ s.mode) × (l ≡ Nobody)
+Ends t s mark None m l = (m ≡ s.mode) × (l ≡ Nobody)
 -- "Mark 1: that job leaves, finished."
-Ends t s true (Job k) m l = (m ≡ s.mode) × (l ≡ Done k)
+Ends t s true (Some k) m l = (m ≡ s.mode) × (l ≡ Done k)
 -- "Mark 0 .."
-Ends t s false (Job k) m l = Judging t k (runs_at s k) s.mode m l
+Ends t s false (Some k) m l = Judging t k (runs_at s k) s.mode m l
 
 abbrev pub Step1 : OneTick → OnTheWay → Type 0
 Step1 x w = Ends (table x) (old x) x.mark (old x).last w.mode x.says.left
@@ -245,7 +243,7 @@ pub record Says (x : OneTick) (w : OnTheWay) : Type 0 where
       (x.says.turn ≡ Empty i) ↔ (Highest x w i × ((k : ℕ) → Waits x i k → ⊥))
   pub timed : (i : ℕ) → x.says.turn ≡ Empty i → (server_at (table x) i).kind ≡ Timed
   pub idle : (x.says.turn ≡ Idle) ↔ ((i : ℕ) → Able x w i → ⊥)
-  pub last : (k : ℕ) → ((new x).last ≡ Job k) ↔ ((i : ℕ) × (x.says.turn ≡ Ran i k))
+  pub last : (k : ℕ) → ((new x).last ≡ Some k) ↔ ((i : ℕ) × (x.says.turn ≡ Ran i k))
 
 pub record ByTheRules (x : OneTick) : Type 0 where
   pub way : OnTheWay

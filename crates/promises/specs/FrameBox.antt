@@ -1,6 +1,6 @@
 -- Request No. 6 of document 02: "A frame box." What can be promised of a cabinet that gives its slots by
 -- a fixed frame; "Demand 3 does not apply here." proofs/FrameBox.antt proves it.
-use Rattle.std.specs.Prelude.{◌≡◌, Bool, true, false, List, ◌⊎◌, ◌↔◌, ℕ, ◌+◌, ◌≤◌, ◌<◌, length, get_or, take, drop}
+use Rattle.std.specs.Prelude.{◌≡◌, Bool, true, false, List, ◌⊎◌, ◌↔◌, ℕ, ◌+◌, ◌≤◌, ◌<◌, length, get_or, take, drop, None, Some}
 use Rattle.laws.specs.Rows.{sum_below}
 use Rattle.table.specs.declared.Mode.TheVariants.{N}
 use Rattle.table.specs.declared.Refusal.{Refusal}
@@ -15,7 +15,6 @@ use Rattle.events.specs.declared.Turn.TheVariants.{Run as Ran, Empty}
 use Rattle.events.specs.Answers.{no_of, starting_number}
 use Rattle.events.specs.Count.{released_in, finished_in, cut_in, released_of, finished_of, cut_of, ticks_in, given_to}
 use Rattle.events.specs.Boxes.{after_in, answers_in}
-use Rattle.queues.specs.declared.Last.TheVariants.{NoJob, Job}
 use Rattle.frametable.specs.declared.FrameTable.{FrameTable}
 use Rattle.frametable.specs.Inner.{FrameSized}
 use Rattle.frametable.specs.Rows.{FrameRows, partition_at, frame_priority_at, frame_limit_at, no_frame_table}
@@ -89,9 +88,9 @@ EachTick =
 abbrev pub EachLeaving : Type 0
 EachLeaving =
     (r : FrameRun) (mark : Bool) (a : TickAnswer) → (tick_of r mark).answer ≡ Ticked a → (k : ℕ) →
-    ((a.left ≡ Done k) ↔ ((mark ≡ true) × (r.state.last ≡ Job k))) ×
+    ((a.left ≡ Done k) ↔ ((mark ≡ true) × (r.state.last ≡ Some k))) ×
     ((a.left ≡ Cut k) ↔
-    ((mark ≡ false) × (r.state.last ≡ Job k) × (runs_at r.state k ≡ frame_limit_at r.table k)))
+    ((mark ≡ false) × (r.state.last ≡ Some k) × (runs_at r.state k ≡ frame_limit_at r.table k)))
 
 -- "jobs released = finished + cut + waiting", from a fresh start, counted from the answers given: in all,
 -- and of each task
@@ -108,7 +107,7 @@ FrameJobs =
 
 -- "Refusals: 6, 8, 9, 10 and 13 keep their order": each exactly in its case, those before it having held
 abbrev pub NoJobRan : FrameRun → Bool → Type 0
-NoJobRan r mark = (mark ≡ true) × (r.state.last ≡ NoJob)
+NoJobRan r mark = (mark ≡ true) × (r.state.last ≡ None)
 
 pub record ReleaseAnswered (r : FrameRun) (k : ℕ) : Type 0 where
   pub no_13 : (no_of (release_of r k).answer ≡ 13) ↔ (frame_sound r ≡ false)

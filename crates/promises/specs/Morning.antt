@@ -1,6 +1,6 @@
 -- What a day desk may conclude from a page of the morning report (02, No. 1), in the page's own
 -- numbers, which crate morning defines. proofs/Morning.antt proves it.
-use Rattle.std.specs.Prelude.{◌≡◌, true, List, [], ◌∷◌, ◌++◌, ℕ, ◌+◌, ◌≤◌, ◌<◌, length}
+use Rattle.std.specs.Prelude.{◌≡◌, true, List, [], ◌∷◌, ◌++◌, ℕ, ◌+◌, ◌≤◌, ◌<◌, length, None, Option, Some}
 use Rattle.laws.specs.Rows.{sum_below}
 use Rattle.decimal.specs.Lines.{closed}
 use Rattle.table.specs.declared.Kind.TheVariants.{Event as EventKind}
@@ -15,8 +15,6 @@ use Rattle.run.specs.declared.Run.{Run}
 use Rattle.events.specs.declared.Turn.{Turn}
 use Rattle.events.specs.declared.Turn.TheVariants.{Run as Ran, Empty, Idle}
 use Rattle.events.specs.declared.Event.{Event}
-use Rattle.events.specs.declared.EventLine.{EventLine}
-use Rattle.events.specs.declared.EventLine.TheVariants.{Of, Another}
 use Rattle.events.specs.declared.Answer.{Answer}
 use Rattle.run.specs.State.{waits}
 use Rattle.events.specs.Answers.{no_of, charged}
@@ -90,19 +88,19 @@ MorningFromTheText =
     Concluded t (fresh_run t) (events_in (event_lines events))
 
 -- a line that is no event, or an event that is answered no
-abbrev pub IsRefused : Run → EventLine → Type 0
-IsRefused r (Of e) = 1 ≤ no_of (event_of r e).answer
-IsRefused r Another = Unit {0}
+abbrev pub IsRefused : Run → Option Event → Type 0
+IsRefused r (Some e) = 1 ≤ no_of (event_of r e).answer
+IsRefused r None = Unit {0}
 
 -- each of these lines, one after the other
-abbrev pub AllRefused : Run → List EventLine → Type 0
+abbrev pub AllRefused : Run → List (Option Event) → Type 0
 AllRefused r [] = Unit {0}
 AllRefused r (l ∷ ls) = IsRefused r l × AllRefused (after_line r l) ls
 
 -- "refused lines count nowhere": they may be left out, or put in anywhere, and the page is the same.
 abbrev pub RefusedCountNowhere : Type 0
 RefusedCountNowhere =
-    (r : Run) (before ls later : List EventLine) → AllRefused (after_lines r before) ls →
+    (r : Run) (before ls later : List (Option Event)) → AllRefused (after_lines r before) ls →
     report_lines r (events_in (before ++ (ls ++ later))) ≡ report_lines r (events_in (before ++ later))
 
 -- "An empty file gives all zeros."

@@ -5,15 +5,13 @@
 -- the forms so shortened, what is imported for the old reading is what the request left alone. The
 -- phase of No. 7 stands in both readings: it came later, and has no number of its own.
 -- proofs/OldReading.antt proves the statement.
-use Rattle.std.specs.Prelude.{◌≡◌, Bool, true, false, not, ◌&&◌, List, [], ◌∷◌, ◌++◌, ℕ, ◌+◌, ◌*◌, leb, ltb, eqb, length, if◌then◌else◌}
+use Rattle.std.specs.Prelude.{◌≡◌, Bool, true, false, not, ◌&&◌, List, [], ◌∷◌, ◌++◌, ℕ, ◌+◌, ◌*◌, leb, ltb, eqb, length, if◌then◌else◌, None, Option, Some}
 use Rattle.laws.specs.Choice.{unless◌say◌else◌, every, within}
 use Rattle.laws.specs.RoundUp.{up}
 use Rattle.decimal.specs.Lines.{tab, line_feed, split, same}
 use Rattle.units.specs.declared.Micros.{Micros}
 use Rattle.table.specs.declared.ByMode.{ByMode}
 use Rattle.table.specs.declared.Server.{Server}
-use Rattle.table.specs.declared.Pair.{Pair}
-use Rattle.table.specs.declared.Pair.TheVariants.{Equal as EqualRows, Differ}
 use Rattle.table.specs.Rows.{Rows, no_rows}
 use Rattle.table.specs.Rules.{tick_keeps, same_partition, degraded_timed, timed_at_home}
 use Rattle.table.specs.Pairs.{equal_servers, equal_tasks}
@@ -187,9 +185,9 @@ old_equal first second = record { number = 5; lines = first ∷ second ∷ []; r
 
 -- 5, "equal priorities", "both lines". "Rows count from 0 within their kind, lines from 1": row 0
 -- stands on line `top`. Where no two are equal, r is said.
-abbrev pub old_pair_said : ℕ → Pair → OldAnswer → OldAnswer
-old_pair_said top (EqualRows i j) r = old_equal (top + i) (top + j)
-old_pair_said top Differ r = r
+abbrev pub old_pair_said : ℕ → Option (ℕ × ℕ) → OldAnswer → OldAnswer
+old_pair_said top (Some (i, j)) r = old_equal (top + i) (top + j)
+old_pair_said top None r = r
 
 -- Servers stand below the `tick` line, tasks below the servers. "then the same for tasks"
 unfoldable pub old_compared : Rows → OldAnswer

@@ -1,12 +1,12 @@
 -- The definitions on small queues, computed: a slip in a definition shows here as an equation that
 -- fails. The laws say more than these. Assumes nothing.
+use Rattle.std.proofs.Common.{None, Some}
 use mathlib.Core.Path.{◌≡◌, refl}
 use mathlib.Core.Bool.{true, false}
 use mathlib.Core.List.{[], ◌∷◌}
 use Rattle.laws.specs.Choice.{every}
 use Rattle.laws.specs.Rows.{anew}
 use Rattle.events.specs.declared.Turn.TheVariants.{Run as Ran}
-use Rattle.queues.specs.declared.Last.TheVariants.{NoJob, Job}
 use Rattle.queues.specs.Queues.{Queues, joined, front_gone, front_ran}
 use Rattle.queues.specs.Sound.{front_sound, last_sound}
 
@@ -35,8 +35,8 @@ fronts = refl
 
 -- the last-run job: none; waiting and run; not run; not waiting; no tick taken; no such task
 lasts :
-    last_sound 3 some 9 NoJob ∷ last_sound 3 some 9 (Job 1) ∷ last_sound 3 some 9 (Job 2) ∷ last_sound 3 some 9 (Job 0)
-    ∷ last_sound 3 some 0 (Job 1) ∷ last_sound 1 some 9 (Job 1) ∷ []
+    last_sound 3 some 9 None ∷ last_sound 3 some 9 (Some 1) ∷ last_sound 3 some 9 (Some 2) ∷ last_sound 3 some 9 (Some 0)
+    ∷ last_sound 3 some 0 (Some 1) ∷ last_sound 1 some 9 (Some 1) ∷ []
     ≡ true ∷ true ∷ false ∷ false ∷ false ∷ false ∷ []
 unfolding every
 lasts = refl

@@ -1,4 +1,5 @@
 -- What a step makes of one of the arrays, case by case as the code asks. Assumes nothing.
+use Rattle.std.proofs.Common.{None, Option, Some}
 use mathlib.Core.Path.{◌≡◌, ap, sym, ◌∙◌}
 use mathlib.Core.Bool.{true, false}
 use mathlib.Core.List.{List, [], ◌∷◌}
@@ -12,8 +13,6 @@ use borrow.Author.Tests.{lt-ltb, le-ltb}
 use Rattle.laws.specs.Rows.{sum_below}
 use Rattle.laws.proofs.Choice.{le_or_lt}
 use Rattle.laws.specs.Choice.{every}
-use Rattle.queues.specs.declared.Last.{Last}
-use Rattle.queues.specs.declared.Last.TheVariants.{NoJob, Job}
 use Rattle.queues.specs.Queues.{Queues, runs_in, waits_in}
 use Rattle.queues.specs.Sound.{last_sound}
 use Rattle.queues.specs.Inner.{joined_waiting, left_waiting, left_runs, ran_once}
@@ -84,17 +83,17 @@ sum_in_use w n k h e = go (le_or_lt n 64)
 
 -- the last-run job: none; of a row not in use; of a row past the arrays; of any other row
 module _ (n : ℕ) (q : Queues) (ticks : ℕ) where
-  pub last_none : (l : Last) → l ≡ NoJob → true ≡ last_sound n q ticks l
+  pub last_none : (l : Option ℕ) → l ≡ None → true ≡ last_sound n q ticks l
   last_none l e = rw e
 
-  pub last_absent : (l : Last) (k : ℕ) → l ≡ Job k → n ≤ k → false ≡ last_sound n q ticks l
+  pub last_absent : (l : Option ℕ) (k : ℕ) → l ≡ Some k → n ≤ k → false ≡ last_sound n q ticks l
   unfolding every
   last_absent l k e h = rw (e, le-ltb k n h)
 
-  pub last_past : (l : Last) (k : ℕ) → l ≡ Job k → k < n → length q.waiting ≤ k → false ≡ last_sound n q ticks l
+  pub last_past : (l : Option ℕ) (k : ℕ) → l ≡ Some k → k < n → length q.waiting ≤ k → false ≡ last_sound n q ticks l
   unfolding every
   last_past l k e h p = rw (e, lt-ltb k n h, get_or-eq_default q.waiting 0 {n = k} p)
 
-  pub last_there : (l : Last) (k : ℕ) → l ≡ Job k → k < n →
+  pub last_there : (l : Option ℕ) (k : ℕ) → l ≡ Some k → k < n →
       every (true ∷ waits_in q k ∷ leb 1 (runs_in q k) ∷ leb 1 ticks ∷ []) ≡ last_sound n q ticks l
   last_there l k e h = rw (e, lt-ltb k n h)

@@ -1,6 +1,7 @@
 -- The queues through a step, row by row: a release adds one job of its task, a front job that leaves
 -- takes one away, and a job that runs has run one tick more. Every other row is as it was. Assumes
 -- nothing.
+use Rattle.std.proofs.Common.{None, Option, Some}
 use mathlib.Core.Path.{◌≡◌, refl, ap, sym, ◌∙◌}
 use mathlib.Core.Bool.{Bool, true, false, not, ◌||◌}
 use mathlib.Core.List.{List}
@@ -17,8 +18,6 @@ use Rattle.laws.proofs.Anew.{anew_at, anew_past, anew_same, length_anew}
 use Rattle.events.specs.declared.Turn.{Turn}
 use Rattle.events.specs.Answers.{one, ran}
 use Rattle.events.proofs.Answers.{one_here, one_past_lem, one_same, same_or_not, sum_one}
-use Rattle.queues.specs.declared.Last.{Last}
-use Rattle.queues.specs.declared.Last.TheVariants.{NoJob, Job}
 use Rattle.queues.specs.Queues.{Queues, waiting_in, runs_in, joined, front_gone, front_ran, ran_job}
 
 -- a row of a list in which row i was set
@@ -91,10 +90,10 @@ pub unchanged : (n : ℕ) (xs : List ℕ) → anew n (λ i x. x + 0) xs ≡ xs
 unchanged n xs = anew_same n (λ i x. x + 0) xs (λ i x. add-zero x)
 
 -- 9: the test says of mark and last-run job what the page says
-pub no_job : (mark : Bool) (l : Last) → ((not mark || ran_job l) ≡ false) ↔ ((mark ≡ true) × (l ≡ NoJob))
+pub no_job : (mark : Bool) (l : Option ℕ) → ((not mark || ran_job l) ≡ false) ↔ ((mark ≡ true) × (l ≡ None))
 no_job mark l = (to mark l, λ p. rw (p.0, p.1))
   where
-    to : (mark : Bool) (l : Last) → (not mark || ran_job l) ≡ false → (mark ≡ true) × (l ≡ NoJob)
-    to true NoJob e = (refl, refl)
-    to true (Job k) e = absurd (clash true refl e)
+    to : (mark : Bool) (l : Option ℕ) → (not mark || ran_job l) ≡ false → (mark ≡ true) × (l ≡ None)
+    to true None e = (refl, refl)
+    to true (Some k) e = absurd (clash true refl e)
     to false l e = absurd (clash true refl e)

@@ -1,5 +1,6 @@
 -- What it says that queues are sound, as plain facts, and back: from the facts, that they are. And
 -- each step keeps them so. Assumes nothing.
+use Rattle.std.proofs.Common.{None, Option, Some}
 use mathlib.Core.Path.{◌≡◌, refl, ap, sym, ◌∙◌}
 use mathlib.Core.Bool.{Bool, true, ◌&&◌, ◌||◌}
 use mathlib.Core.List.{[], ◌∷◌}
@@ -16,8 +17,6 @@ use Rattle.events.specs.declared.Turn.{Turn}
 use Rattle.events.specs.declared.Turn.TheVariants.{Run as Ran, Empty, Idle}
 use Rattle.events.specs.Answers.{ran}
 use Rattle.events.proofs.Answers.{one_here, one_past_lem, one_eq, same_or_not, ran_is}
-use Rattle.queues.specs.declared.Last.{Last}
-use Rattle.queues.specs.declared.Last.TheVariants.{NoJob, Job}
 use Rattle.queues.specs.Queues.{Queues, waiting_in, runs_in, waits_in, joined, front_gone, last_of, is_last}
 use Rattle.queues.specs.Sound.{front_sound, queue_sound, last_sound, counts_sound}
 use Rattle.queues.proofs.Queues.{set_at, set_past, joined_waiting_lem, joined_sum}
@@ -35,9 +34,9 @@ pub record JobSound (n : ℕ) (q : Queues) (ticks k : ℕ) : Type 0 where
   pub ran : 1 ≤ runs_in q k
   pub tick : 1 ≤ ticks
 
-abbrev pub LastSound : ℕ → Queues → ℕ → Last → Type 0
-LastSound n q ticks NoJob = Unit {0}
-LastSound n q ticks (Job k) = JobSound n q ticks k
+abbrev pub LastSound : ℕ → Queues → ℕ → Option ℕ → Type 0
+LastSound n q ticks None = Unit {0}
+LastSound n q ticks (Some k) = JobSound n q ticks k
 
 pub record CountsSound (n : ℕ) (q : Queues) (taken released : ℕ) : Type 0 where
   pub ticks : taken ≤ 4000000000
@@ -71,9 +70,9 @@ queue_facts limit w c last e =
       front = front_some limit w c last (at 1);
     }
 
-pub last_facts : (n : ℕ) (q : Queues) (ticks : ℕ) (l : Last) → last_sound n q ticks l ≡ true → LastSound n q ticks l
-last_facts n q ticks NoJob e = tt
-last_facts n q ticks (Job k) e =
+pub last_facts : (n : ℕ) (q : Queues) (ticks : ℕ) (l : Option ℕ) → last_sound n q ticks l ≡ true → LastSound n q ticks l
+last_facts n q ticks None e = tt
+last_facts n q ticks (Some k) e =
     let at = every_at (ltb k n ∷ waits_in q k ∷ leb 1 (runs_in q k) ∷ leb 1 ticks ∷ []) e in
     record {
       below = ltb-true k n (at 0);
@@ -114,10 +113,10 @@ pub queue_tests : (limit w c : ℕ) (last : Bool) → QueueSound limit w c last 
 unfolding every
 queue_tests limit w c last f = rw (le-leb w 16 f.queue, front_test limit w c last f)
 
-pub last_tests : (n : ℕ) (q : Queues) (ticks : ℕ) (l : Last) → LastSound n q ticks l → last_sound n q ticks l ≡ true
+pub last_tests : (n : ℕ) (q : Queues) (ticks : ℕ) (l : Option ℕ) → LastSound n q ticks l → last_sound n q ticks l ≡ true
 unfolding every
-last_tests n q ticks NoJob f = refl
-last_tests n q ticks (Job k) f =
+last_tests n q ticks None f = refl
+last_tests n q ticks (Some k) f =
     rw (
       lt-ltb k n f.below,
       lt-ltb 0 (waiting_in q k) f.waits,
@@ -155,10 +154,10 @@ joined_queue q k j limit c last l room low f =
     first (inl z) = inl (omega (arith, f.none (omega arith)))
     first (inr w) = f.front w
 
-pub joined_last : (n : ℕ) (q : Queues) (k ticks : ℕ) → k < length q.waiting → (l : Last) → LastSound n q ticks l →
+pub joined_last : (n : ℕ) (q : Queues) (k ticks : ℕ) → k < length q.waiting → (l : Option ℕ) → LastSound n q ticks l →
     LastSound n (joined q k) ticks l
-joined_last n q k ticks h NoJob f = tt
-joined_last n q k ticks h (Job j) f =
+joined_last n q k ticks h None f = tt
+joined_last n q k ticks h (Some j) f =
     record { below = f.below; waits = omega (arith, joined_waiting_lem q k j h, f.waits); ran = f.ran; tick = f.tick }
 
 pub joined_counts : (n : ℕ) (q : Queues) (k ticks accepted : ℕ) → k < length q.waiting → k < n →

@@ -19,29 +19,17 @@ pub const QUEUE: u8 = 16;
 // At most so many ticks are taken, and as many releases accepted.
 pub const MOST: u32 = 4000000000;
 
-// Whether the last taken tick ran a job, and of which task. No tick taken is no job run.
-#[derive(Clone, Copy)]
-pub enum Last {
-    NoJob,
-    Job(usize),
-}
-
-pub fn is_last(last: Last, k: usize) -> bool
+// The last-run job is told by its task: none where the last taken tick ran no job, or none was taken.
+pub fn is_last(last: Option<usize>, k: usize) -> bool
     ensures { result ≡ is_last last k }
 {
-    match last {
-        Last::NoJob => false,
-        Last::Job(j) => j == k,
-    }
+    last == Some(k)
 }
 
-pub fn ran_job(last: Last) -> bool
+pub fn ran_job(last: Option<usize>) -> bool
     ensures { result ≡ ran_job last }
 {
-    match last {
-        Last::NoJob => false,
-        Last::Job(_) => true,
-    }
+    last.is_some()
 }
 
 // "A release adds one job at the back of its task's queue". A queue that is full stays as it is, and
@@ -151,13 +139,13 @@ pub fn last_sound(
     waiting: [u8; TASKS],
     runs: [u32; TASKS],
     ticks: u32,
-    last: Last,
+    last: Option<usize>,
 ) -> bool
     ensures { result ≡ last_sound n (record { waiting = waiting; runs = runs }) ticks last }
 {
     match last {
-        Last::NoJob => true,
-        Last::Job(k) => {
+        None => true,
+        Some(k) => {
             if n <= k {
                 return false;
             }

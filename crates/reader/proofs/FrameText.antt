@@ -1,7 +1,7 @@
 -- The text of a frame box's table: a line told from its leading word and the one pass over its
 -- fields, how it stands by the count of the rows above it, and the table that holds those rows.
 -- Assumes nothing.
-use Rattle.std.specs.Prelude.{if◌then◌else◌}
+use Rattle.std.specs.Prelude.{if◌then◌else◌, None, Some}
 use mathlib.Core.Path.{◌≡◌, refl, sym, ap, subst, ◌∙◌}
 use mathlib.Core.Bool.{Bool, true, false}
 use mathlib.Core.List.{List, [], ◌∷◌}
@@ -12,7 +12,6 @@ use lib.Dec.{eqb}
 use lib.ListN.{length, get_or, take, drop, set, replicate, length-append}
 use lib.Seq.{take-append_seam}
 use borrow.Author.Tests.{ltb-true}
-use Rattle.laws.specs.declared.Found.TheVariants.{At, Nothing}
 use Rattle.laws.specs.Choice.{every}
 use Rattle.laws.specs.Search.{least, first_failed}
 use Rattle.laws.specs.RoundUp.{up}
@@ -21,7 +20,6 @@ use Rattle.units.specs.declared.Micros.{Micros}
 use Rattle.decimal.specs.Inner.Fields.{first_line, fields_from, first_field, field_end}
 use Rattle.decimal.proofs.Lines.{high}
 use Rattle.decimal.proofs.Inner.Fields.{field_more, field_last}
-use Rattle.table.specs.declared.Pair.TheVariants.{Equal as EqualRows, Differ}
 use Rattle.table.specs.declared.Refusal.TheVariants.{Malformed as MalformedWhy}
 use Rattle.table.specs.declared.Standing.TheVariants.{Kept}
 use Rattle.table.specs.Rules.{tick_keeps}
@@ -60,26 +58,26 @@ module _ (form : Form) (text : List ℕ) (from : ℕ) (r : Fields) (read : ReadA
   frame_lined l said e = rw (e, line_ends form text from r read)
 
 module _ (text : List ℕ) (from : ℕ) (r : Fields) where
-  pub frame_tick_wrong : ReadAs tick_form text from r → (field : ℕ) → r.wrong ≡ At field →
+  pub frame_tick_wrong : ReadAs tick_form text from r → (field : ℕ) → r.wrong ≡ Some field →
       Malformed ATick field ≡ frame_line_by ATick (fields_from text from)
   unfolding frame_line_by
   frame_tick_wrong e field w =
       form_wrong tick_form text from r e (Malformed ATick) (OfTick (micros_at (fields_from text from) 1)) field w
 
-  pub frame_tick_read : ReadAs tick_form text from r → r.wrong ≡ Nothing →
+  pub frame_tick_read : ReadAs tick_form text from r → r.wrong ≡ None →
       OfTick (record { 0 = get_or r.values 0 0 }) ≡ frame_line_by ATick (fields_from text from)
   unfolding frame_line_by tick_form
   frame_tick_read e w =
       rw (value_read tick_form text from r e w (omega arith) 0 (omega arith))
       (form_right tick_form text from r e w (Malformed ATick) (OfTick (micros_at (fields_from text from) 1)))
 
-  pub frame_task_wrong : ReadAs frame_task_form text from r → (field : ℕ) → r.wrong ≡ At field →
+  pub frame_task_wrong : ReadAs frame_task_form text from r → (field : ℕ) → r.wrong ≡ Some field →
       Malformed ATask field ≡ frame_line_by ATask (fields_from text from)
   unfolding frame_line_by
   frame_task_wrong e field w =
       form_wrong frame_task_form text from r e (Malformed ATask) (OfTask (frame_task_said (fields_from text from))) field w
 
-  pub frame_task_read : ReadAs frame_task_form text from r → r.wrong ≡ Nothing →
+  pub frame_task_read : ReadAs frame_task_form text from r → r.wrong ≡ None →
       OfTask (record {
         partition = get_or r.values 0 0;
         priority = get_or r.values 1 0;
@@ -244,13 +242,13 @@ unfolding frame_ended
 frame_ended_none n a e = rw e
 
 module _ (n : ℕ) (a : FrameRows) (some : is_nil a.tasks ≡ false) where
-  pub frame_ended_pair : {i j : ℕ} → equal_frame_tasks a.tasks ≡ EqualRows i j →
+  pub frame_ended_pair : {i j : ℕ} → equal_frame_tasks a.tasks ≡ Some (i, j) →
       equal_beside no_frame_rows (2 + i) (2 + j) ≡ frame_ended n a
   unfolding frame_ended
   frame_ended_pair e = rw (some, e)
 
   pub frame_ended_taken : (t : FrameTable) → a ≡ frame_rows_of t → t ≡ frame_table_of (frame_rows_of t) →
-      equal_frame_tasks a.tasks ≡ Differ →
+      equal_frame_tasks a.tasks ≡ None →
       ◌≡◌ {A = FrameRead} (record { answer = Taken; table = t }) (frame_shown (frame_ended n a))
   unfolding frame_ended frame_shown
   frame_ended_taken t r w f = rw (some, f, r) (ap (λ (x : FrameTable). record { answer = Taken; table = x }) w)

@@ -1,6 +1,6 @@
 -- A line, told from its leading word where it stands and from the one pass over its fields: the
 -- first that is wrong, and where none is what their numbers say. Assumes nothing.
-use Rattle.std.specs.Prelude.{if◌then◌else◌}
+use Rattle.std.specs.Prelude.{if◌then◌else◌, None, Option, Some}
 use mathlib.Core.Path.{◌≡◌, refl, sym, ap, ◌∙◌}
 use mathlib.Core.Bool.{Bool, true, false}
 use mathlib.Core.List.{List, [], ◌∷◌, ◌++◌}
@@ -12,8 +12,6 @@ use lib.Dec.{ltb}
 use borrow.Author.Tests.{ltb-false}
 use lib.ListN.{length, get_or, take, drop, length-take, length-append, get_or-append}
 use lib.Seq.{get_or-take, get_or-append_seam, take-take, take-suc, take-append_seam}
-use Rattle.laws.specs.declared.Found.{Found}
-use Rattle.laws.specs.declared.Found.TheVariants.{At, Nothing}
 use Rattle.laws.proofs.Choice.{clash, is_false}
 use Rattle.laws.specs.Search.{first_failed}
 use Rattle.laws.proofs.Search.{failed_none}
@@ -24,8 +22,6 @@ use Rattle.decimal.proofs.Lines.{split_some, Finds, high, high_at, same_eq, same
 use Rattle.decimal.proofs.Inner.Fields.{end_past_high, end_tab, end_within, end_taken, field_taken, field_more, field_last, line_behind_tab, line_on_from, line_found}
 use Rattle.table.specs.declared.Kind.{Kind}
 use Rattle.table.specs.declared.Level.{Level}
-use Rattle.text.specs.declared.LastField.{LastField}
-use Rattle.text.specs.declared.LastField.TheVariants.{Absent, Given}
 use Rattle.text.specs.declared.Word.{Word}
 use Rattle.text.specs.declared.Word.TheVariants.{ATick, AServer, ATask, Unknown}
 use Rattle.text.specs.declared.Line.{Line}
@@ -38,6 +34,7 @@ use Rattle.reader.specs.Inner.Fields.{value_of, kind_at, level_at, last_of, line
 use Rattle.reader.specs.declared.forms.WordRead.{WordRead}
 use Rattle.reader.specs.Inner.Lines.{first_word, line_read, read_behind, first_read}
 use Rattle.reader.proofs.Inner.Fields.{pass_ends, pass_wrong, pass_values, pass_many}
+use Rattle.units.specs.declared.Micros.{Micros}
 
 -- a word by its place
 kind_said : (f : List ℕ) → kind_at (value_of a_kind f) ≡ kind_of f
@@ -63,7 +60,7 @@ ReadAs form text from r =
     r ≡ passed form.least form.fields 0 (no_fields (line_end text from)) (fields_from text from)
 
 module _ (form : Form) (text : List ℕ) (from : ℕ) (r : Fields) (read : ReadAs form text from r) where
-  first_wrong_lem : (w : Found) → r.wrong ≡ w → first_failed (form_tests form (fields_from text from)) ≡ w
+  first_wrong_lem : (w : Option ℕ) → r.wrong ≡ w → first_failed (form_tests form (fields_from text from)) ≡ w
   first_wrong_lem w e =
       sym
       (pass_wrong form (fields_from text from) (line_end text from) (split_some tab (first_line (drop from text))))
@@ -74,25 +71,25 @@ module _ (form : Form) (text : List ℕ) (from : ℕ) (r : Fields) (read : ReadA
   pub line_ends : r.end ≡ line_end text from
   line_ends = ap (λ (x : Fields). x.end) read ∙ pass_ends form (fields_from text from) (line_end text from)
 
-  pub form_wrong : {L : Type 0} (malformed : ℕ → L) (said : L) (field : ℕ) → r.wrong ≡ At field →
+  pub form_wrong : {L : Type 0} (malformed : ℕ → L) (said : L) (field : ℕ) → r.wrong ≡ Some field →
       malformed field ≡ formed_or malformed form (fields_from text from) said
-  form_wrong malformed said field e = ap (λ x. unless_wrong x malformed said) (sym (first_wrong_lem (At field) e))
+  form_wrong malformed said field e = ap (λ x. unless_wrong x malformed said) (sym (first_wrong_lem (Some field) e))
 
   pub lined : (l : Line) (said : Line) → l ≡ said → record { line = l; end = r.end } ≡ line_read text from said
   lined l said e = rw (e, line_ends)
 
-  pub form_not : (said : Line) (field : ℕ) → r.wrong ≡ At field →
+  pub form_not : (said : Line) (field : ℕ) → r.wrong ≡ Some field →
       record { line = Malformed (word_of said) field; end = r.end } ≡
       line_read text from (formed form (fields_from text from) said)
   form_not said field e =
       lined (Malformed (word_of said) field) (formed form (fields_from text from) said)
       (form_wrong (Malformed (word_of said)) said field e)
 
-  module _ (none : r.wrong ≡ Nothing) where
+  module _ (none : r.wrong ≡ None) where
     -- and where none is
     pub form_right : {L : Type 0} (malformed : ℕ → L) (said : L) →
         said ≡ formed_or malformed form (fields_from text from) said
-    form_right malformed said = ap (λ x. unless_wrong x malformed said) (sym (first_wrong_lem Nothing none))
+    form_right malformed said = ap (λ x. unless_wrong x malformed said) (sym (first_wrong_lem None none))
 
     form_has : (said : Line) → said ≡ formed form (fields_from text from) said
     form_has said = form_right (Malformed (word_of said)) said
@@ -101,18 +98,18 @@ module _ (form : Form) (text : List ℕ) (from : ℕ) (r : Fields) (read : ReadA
         get_or r.values i 0 ≡ value_of (get_or form.fields i a_number) (get_or (fields_from text from) i [])
     value_at l i h =
         ap (λ (x : Fields). get_or x.values i 0) read
-        ∙ pass_values form (fields_from text from) (line_end text from) (first_wrong_lem Nothing none) l i h
+        ∙ pass_values form (fields_from text from) (line_end text from) (first_wrong_lem None none) l i h
 
     pub value_read : length form.fields ≤ 8 → (i : ℕ) → i < form.least →
         get_or r.values i 0 ≡ value_of (get_or form.fields i a_number) (get_or (fields_from text from) i [])
     value_read l i h =
-        let has = (failed_none (form_tests form (fields_from text from))).0 (first_wrong_lem Nothing none) in
+        let has = (failed_none (form_tests form (fields_from text from))).0 (first_wrong_lem None none) in
         value_at l i (omega (arith, (form_count form (fields_from text from) has).0))
 
     many_read : r.count ≡ length (fields_from text from)
     many_read =
         ap (λ (x : Fields). x.count) read
-        ∙ pass_many form (fields_from text from) (line_end text from) (first_wrong_lem Nothing none)
+        ∙ pass_many form (fields_from text from) (line_end text from) (first_wrong_lem None none)
         (split_some tab (first_line (drop from text)))
 
     -- field k, the last of its form, a number
@@ -121,8 +118,8 @@ module _ (form : Form) (text : List ℕ) (from : ℕ) (r : Fields) (read : ReadA
     last_read k p l e = rw many_read (go (ltb (length (fields_from text from)) k) refl)
       where
         go : (b : Bool) → ltb (length (fields_from text from)) k ≡ b →
-            (if b then Absent else Given (record { 0 = get_or r.values (k - 1) 0 }))
-            ≡ (if b then Absent else Given (micros_at (fields_from text from) k))
+            (if b then None else Some (record { 0 = get_or r.values (k - 1) 0 }))
+            ≡ (if b then None else Some (micros_at (fields_from text from) k))
         go true q = refl
         go false q =
             let h = ltb-false (length (fields_from text from)) k q in
@@ -130,7 +127,7 @@ module _ (form : Form) (text : List ℕ) (from : ℕ) (r : Fields) (read : ReadA
 
 -- and what it says where no field is wrong
 module _ (text : List ℕ) (from : ℕ) (r : Fields) where
-  pub tick_read : ReadAs tick_form text from r → r.wrong ≡ Nothing →
+  pub tick_read : ReadAs tick_form text from r → r.wrong ≡ None →
       OfTick (record { 0 = get_or r.values 0 0 }) ≡
       formed tick_form (fields_from text from) (OfTick (micros_at (fields_from text from) 1))
   unfolding tick_form
@@ -138,9 +135,9 @@ module _ (text : List ℕ) (from : ℕ) (r : Fields) where
       rw (value_read tick_form text from r e w (omega arith) 0 (omega arith))
       (form_has tick_form text from r e w (OfTick (micros_at (fields_from text from) 1)))
 
-  pub server_read : (kind : Kind) (phase : LastField) → kind ≡ kind_at (get_or r.values 1 0) →
+  pub server_read : (kind : Kind) (phase : Option Micros) → kind ≡ kind_at (get_or r.values 1 0) →
       phase ≡ last_of r.count 8 (get_or r.values 7 0) →
-      ReadAs server_form text from r → r.wrong ≡ Nothing →
+      ReadAs server_form text from r → r.wrong ≡ None →
       OfServer (record {
         partition = get_or r.values 0 0;
         kind = kind;
@@ -171,7 +168,7 @@ module _ (text : List ℕ) (from : ℕ) (r : Fields) where
       (form_has server_form text from r e w (OfServer (server_said (fields_from text from))))
 
   pub task_read : (level : Level) → level ≡ level_at (get_or r.values 3 0) →
-      ReadAs task_form text from r → r.wrong ≡ Nothing →
+      ReadAs task_form text from r → r.wrong ≡ None →
       OfTask (record {
         home = get_or r.values 0 0;
         degraded = get_or r.values 1 0;

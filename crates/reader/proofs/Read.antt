@@ -1,5 +1,6 @@
 -- A whole text, read line by line: the table begins without rows, and at the end the rows are
 -- compared, and lines are told from rows. Assumes nothing.
+use Rattle.std.proofs.Common.{None, Some}
 use mathlib.Core.Path.{◌≡◌, sym, ap, ◌∙◌, subst}
 use mathlib.Core.Bool.{true, false}
 use mathlib.Core.List.{List}
@@ -8,7 +9,6 @@ use native.Mathlib.Omega.{arith}
 use native.Mathlib.Nat.{zero-add}
 use lib.ListN.{length, take, drop}
 use Rattle.decimal.specs.Inner.Fields.{first_line}
-use Rattle.table.specs.declared.Pair.TheVariants.{Equal, Differ}
 use Rattle.table.specs.declared.Table.{Table}
 use Rattle.table.specs.declared.Refusal.TheVariants.{Malformed}
 use Rattle.table.specs.Pairs.{first_pair, equal_servers, equal_tasks}
@@ -28,7 +28,7 @@ use Rattle.reader.proofs.Inner.{above_first}
 use Rattle.reader.proofs.TableText.{lent}
 
 -- both rows of an equal pair are below the count
-pub pair_below : (m n : ℕ) (q : ℕ → ℕ) (i j : ℕ) → m ≤ n → first_pair m q ≡ Equal i j →
+pub pair_below : (m n : ℕ) (q : ℕ → ℕ) (i j : ℕ) → m ≤ n → first_pair m q ≡ Some (i, j) →
     (i < n) × (j < n)
 pair_below m n q i j h e = let w = pair_found m q i j e in omega (arith, w.ordered, w.below)
 
@@ -38,19 +38,19 @@ unfolding ended
 ended_none n a e = rw e
 
 module _ (n : ℕ) (a : Rows) (some : is_nil a.tasks ≡ false) where
-  pub ended_servers : {i j : ℕ} → equal_servers a.servers ≡ Equal i j →
+  pub ended_servers : {i j : ℕ} → equal_servers a.servers ≡ Some (i, j) →
       equal (2 + i) (2 + j) ≡ ended n a
   unfolding ended compared
   ended_servers e = rw (some, e)
 
-  module _ (e : equal_servers a.servers ≡ Differ) where
-    pub ended_tasks : {m i j : ℕ} → length a.servers ≡ m → equal_tasks a.tasks ≡ Equal i j →
+  module _ (e : equal_servers a.servers ≡ None) where
+    pub ended_tasks : {m i j : ℕ} → length a.servers ≡ m → equal_tasks a.tasks ≡ Some (i, j) →
         equal (2 + m + i) (2 + m + j) ≡ ended n a
     unfolding ended compared
     ended_tasks c f = rw (some, e, c, f)
 
     pub ended_taken : (t : Table) → a ≡ rows_of t → t ≡ table_of (rows_of t) →
-        equal_tasks a.tasks ≡ Differ →
+        equal_tasks a.tasks ≡ None →
         ◌≡◌ {A = Read} (record { answer = Taken; table = t }) (shown (ended n a))
     unfolding ended compared shown
     ended_taken t r w f =

@@ -6,8 +6,7 @@ ghost use Rattle.std.specs.Prelude.{◌≡◌, ◌≤◌, ◌<◌, length};
 ghost use Rattle.text.specs.Line.{a_kind, a_level};
 ghost use Rattle.reader.specs.Inner.Fields.{expected_of, read_field, field_as, first_wrong, value_in, counted, fields_passed};
 
-use decimal::{Field, LINE_FEED, Number};
-use laws::Found;
+use decimal::{Field, LINE_FEED};
 use table::THE_LINE;
 
 // The most fields that a kind of line has after its leading word.
@@ -18,39 +17,39 @@ pub const FIELDS: usize = 8;
 // line ends.
 #[derive(Clone, Copy)]
 pub struct Fields {
-    pub wrong: Found,
+    pub wrong: Option<usize>,
     pub values: [u64; FIELDS],
     pub count: usize,
     pub end: usize,
 }
 
 // event 0, timed 1
-fn read_kind(s: &[u8]) -> Number
+fn read_kind(s: &[u8]) -> Option<u64>
     ensures { result ≡ read_field a_kind s.now }
 {
     if decimal::is_same(s, b"timed") {
-        return Number::Value(1);
+        return Some(1);
     }
     if decimal::is_same(s, b"event") {
-        return Number::Value(0);
+        return Some(0);
     }
-    Number::Bad
+    None
 }
 
 // LO 0, MI 1, HI 2
-fn read_level(s: &[u8]) -> Number
+fn read_level(s: &[u8]) -> Option<u64>
     ensures { result ≡ read_field a_level s.now }
 {
     if decimal::is_same(s, b"HI") {
-        return Number::Value(2);
+        return Some(2);
     }
     if decimal::is_same(s, b"MI") {
-        return Number::Value(1);
+        return Some(1);
     }
     if decimal::is_same(s, b"LO") {
-        return Number::Value(0);
+        return Some(0);
     }
-    Number::Bad
+    None
 }
 
 // The field that begins at a place, by the letter of the shape.
@@ -72,34 +71,28 @@ fn read_field(text: &[u8], at: usize, letter: u8) -> Field
 }
 
 // The first place that is told, field k being as it was read.
-fn first_wrong(wrong: Found, n: Number, k: usize) -> Found
+fn first_wrong(wrong: Option<usize>, n: Option<u64>, k: usize) -> Option<usize>
     ensures { result ≡ first_wrong wrong n k }
 {
     match n {
-        Number::Value(_) => wrong,
-        Number::Bad => match wrong {
-            Found::At(j) => Found::At(j),
-            Found::Nothing => Found::At(k),
-        },
+        Some(_) => wrong,
+        None => wrong.or(Some(k)),
     }
 }
 
 // Of a field that is not as expected the number is never asked for.
-fn value_in(n: Number) -> u64
+fn value_in(n: Option<u64>) -> u64
     ensures { result ≡ value_in n }
 {
-    match n {
-        Number::Value(v) => v,
-        Number::Bad => 0,
-    }
+    n.unwrap_or(0)
 }
 
 // The line ends after n fields: their count is told before any field.
-fn count(wrong: Found, n: usize, least: usize) -> Found
+fn count(wrong: Option<usize>, n: usize, least: usize) -> Option<usize>
     ensures { result ≡ counted least n wrong }
 {
     if n < least {
-        return Found::At(THE_LINE);
+        return Some(THE_LINE);
     }
     wrong
 }
@@ -109,7 +102,7 @@ pub(crate) fn read_fields(text: &[u8], from: usize, shape: &[u8], least: usize) 
     ensures { result ≡ fields_passed least shape.now text.now from }
 {
     let mut values = [0; FIELDS];
-    let mut wrong = Found::Nothing;
+    let mut wrong = None;
     let mut at = from;
     for k in 0..shape.len() {
         let f = read_field(text, at, shape[k]);
@@ -129,7 +122,7 @@ pub(crate) fn read_fields(text: &[u8], from: usize, shape: &[u8], least: usize) 
     }
     let end = decimal::find(text, at, LINE_FEED);
     Fields {
-        wrong: Found::At(THE_LINE),
+        wrong: Some(THE_LINE),
         values,
         count: shape.len(),
         end,

@@ -11,9 +11,8 @@ ghost use Rattle.reader.specs.Inner.Lines.{first_word, read_behind, first_read};
 
 use crate::fields;
 use decimal::LINE_FEED;
-use laws::Found;
 use table::{Kind, Level, THE_LINE};
-use text::{LastField, Line, ServerLine, TaskLine, Times, Word};
+use text::{Line, ServerLine, TaskLine, Times, Word};
 use units::Micros;
 
 // Where the fields begin behind a leading word and its tab.
@@ -52,13 +51,13 @@ fn level_at(v: u64) -> Level
 }
 
 // Field k, the last of its form, where a line of so many fields goes so far. Its number is v.
-fn last_at(count: usize, k: usize, v: u64) -> LastField
+fn last_at(count: usize, k: usize, v: u64) -> Option<Micros>
     ensures { result ≡ last_of count k v }
 {
     if count < k {
-        return LastField::Absent;
+        return None;
     }
-    LastField::Given(Micros(v))
+    Some(Micros(v))
 }
 
 fn tick_line(text: &[u8], from: usize) -> LineRead
@@ -68,7 +67,7 @@ fn tick_line(text: &[u8], from: usize) -> LineRead
     let f = fields::read_fields(text, from, b"n", 1);
     let end = f.end;
     let wrong = f.wrong;
-    if let Found::At(field) = wrong {
+    if let Some(field) = wrong {
         let line = Line::Malformed(Word::ATick, field);
         return LineRead { line, end };
     }
@@ -84,7 +83,7 @@ fn server_line(text: &[u8], from: usize) -> LineRead
     let f = fields::read_fields(text, from, b"nknnnnnn", 7);
     let end = f.end;
     let wrong = f.wrong;
-    if let Found::At(field) = wrong {
+    if let Some(field) = wrong {
         let line = Line::Malformed(Word::AServer, field);
         return LineRead { line, end };
     }
@@ -114,7 +113,7 @@ fn task_line(text: &[u8], from: usize) -> LineRead
     let f = fields::read_fields(text, from, b"nnnlnnn", 7);
     let end = f.end;
     let wrong = f.wrong;
-    if let Found::At(field) = wrong {
+    if let Some(field) = wrong {
         let line = Line::Malformed(Word::ATask, field);
         return LineRead { line, end };
     }

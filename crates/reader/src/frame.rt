@@ -16,8 +16,7 @@ ghost use Rattle.reader.specs.Inner.Frame.{FrameAbove, frame_behind, first_frame
 
 use crate::{fields, forms, rows, rules};
 use frametable::{FrameLine, FrameRead, FrameTable, FrameTask, FrameTaskLine};
-use laws::Found;
-use table::{Pair, Refusal, Standing, TASKS, THE_LINE};
+use table::{Refusal, Standing, TASKS, THE_LINE};
 use text::{LONGEST_TEXT, Reading, Word};
 use units::Micros;
 
@@ -35,7 +34,7 @@ fn tick_line(text: &[u8], from: usize) -> FrameLineRead
     let f = fields::read_fields(text, from, b"n", 1);
     let end = f.end;
     let wrong = f.wrong;
-    if let Found::At(field) = wrong {
+    if let Some(field) = wrong {
         let line = FrameLine::Malformed(Word::ATick, field);
         return FrameLineRead { line, end };
     }
@@ -51,7 +50,7 @@ fn task_line(text: &[u8], from: usize) -> FrameLineRead
     let f = fields::read_fields(text, from, b"nnn", 3);
     let end = f.end;
     let wrong = f.wrong;
-    if let Found::At(field) = wrong {
+    if let Some(field) = wrong {
         let line = FrameLine::Malformed(Word::ATask, field);
         return FrameLineRead { line, end };
     }
@@ -82,7 +81,7 @@ fn read_line(text: &[u8]) -> FrameLineRead
 
 // A limit is rounded up and then 1 to 100,000 ticks exactly if it is 1 microsecond to 100,000
 // ticks.
-fn task_bounds(rows: usize, tick: Micros, k: FrameTaskLine) -> Found
+fn task_bounds(rows: usize, tick: Micros, k: FrameTaskLine) -> Option<usize>
     requires { (0 < tick.0) × (tick.0 ≤ 10000) }
     ensures { result ≡ first_failed (frame_task_bounds rows tick.0 k) }
 {
@@ -119,7 +118,7 @@ fn task_standing(tick: Micros, tasks: usize, k: FrameTaskLine) -> Standing
     requires { tick_keeps tick.0 ≡ true }
     ensures { result ≡ frame_task_standing tick.0 tasks k }
 {
-    if let Found::At(field) = task_bounds(tasks, tick, k) {
+    if let Some(field) = task_bounds(tasks, tick, k) {
         return Standing::Broken(Refusal::OutOfBounds, field);
     }
     Standing::Kept
@@ -186,7 +185,7 @@ fn end(n: usize, t: FrameTable) -> FrameRead
     }
     let ks = t.tasks;
     let p = frametable::equal_frame_tasks(ks, tasks);
-    if let Pair::Equal(i, j) = p {
+    if let Some((i, j)) = p {
         return refuse_pair(2 + i, 2 + j);
     }
     FrameRead {

@@ -14,7 +14,7 @@ ghost use Rattle.table.specs.Rows.{rows_of};
 ghost use Rattle.text.specs.Read.{refused, equal, ended, read, shown};
 ghost use Rattle.reader.specs.Inner.{Above};
 
-use table::{Pair, Refusal, Standing, THE_LINE, Table};
+use table::{Refusal, Standing, THE_LINE, Table};
 use text::{LONGEST_TEXT, Line, Read, Reading};
 
 fn refuse(why: Refusal, line: usize, field: usize) -> Read
@@ -50,13 +50,13 @@ fn end(n: usize, t: Table) -> Read
     }
     let ss = t.servers;
     let p = table::equal_servers(ss, servers);
-    if let Pair::Equal(i, j) = p {
+    if let Some((i, j)) = p {
         return refuse_pair(2 + i, 2 + j);
     }
     let top = 2 + servers;
     let ks = t.tasks;
     let q = table::equal_tasks(ks, tasks);
-    if let Pair::Equal(i, j) = q {
+    if let Some((i, j)) = q {
         return refuse_pair(top + i, top + j);
     }
     Read {

@@ -9,7 +9,7 @@ ghost use Rattle.text.specs.Standing.{in_ticks, phase_said, server_of, rounded_u
 ghost use Rattle.reader.specs.Inner.{FewTicks};
 
 use table::{ByMode, Server, Task};
-use text::{LastField, ServerLine, TaskLine, Times};
+use text::{ServerLine, TaskLine, Times};
 use units::{Micros, Ticks};
 
 // "each rounded up to a tick". A time may be of more ticks than 32 bits hold: its bound is judged
@@ -27,12 +27,12 @@ pub(crate) fn round_up(u: Micros, tick: Micros) -> Ticks
 }
 
 // "A row without the field has phase 0".
-pub(crate) fn phase_said(p: LastField) -> Micros
+pub(crate) fn phase_said(p: Option<Micros>) -> Micros
     ensures { result ≡ phase_said p }
 {
     match p {
-        LastField::Absent => Micros(0),
-        LastField::Given(u) => u,
+        None => Micros(0),
+        Some(u) => u,
     }
 }
 

@@ -13,7 +13,6 @@ ghost use Rattle.reader.specs.Inner.{placed_by, tick_standing, server_standing, 
 ghost use Rattle.reader.specs.Inner.{named_rows, standing_by};
 
 use crate::rows;
-use laws::Found;
 use table::{Refusal, SERVERS, Server, Standing, TASKS, THE_LINE};
 use text::{Line, ServerLine, TaskLine, Word};
 use units::Micros;
@@ -29,7 +28,7 @@ fn leaves_a_tick(phase: Micros, tick: Micros, period: Micros) -> bool
     tick.0 <= period.0 - phase.0
 }
 
-fn server_bounds(rows: usize, tick: Micros, s: ServerLine) -> Found
+fn server_bounds(rows: usize, tick: Micros, s: ServerLine) -> Option<usize>
     requires { tick.0 ≤ 10000 }
     ensures { result ≡ first_failed (server_bounds rows tick.0 s) }
 {
@@ -54,7 +53,7 @@ fn server_bounds(rows: usize, tick: Micros, s: ServerLine) -> Found
     ])
 }
 
-fn server_whole(tick: Micros, s: ServerLine) -> Found
+fn server_whole(tick: Micros, s: ServerLine) -> Option<usize>
     requires { 0 < tick.0 }
     ensures { result ≡ first_failed (server_whole tick.0 s) }
 {
@@ -77,7 +76,7 @@ fn server_whole(tick: Micros, s: ServerLine) -> Found
 
 // A limit is rounded up and then 1 to 100,000 ticks exactly if it is 1 microsecond to 100,000
 // ticks.
-fn task_bounds(rows: usize, tick: Micros, k: TaskLine) -> Found
+fn task_bounds(rows: usize, tick: Micros, k: TaskLine) -> Option<usize>
     requires { (0 < tick.0) × (tick.0 ≤ 10000) }
     ensures { result ≡ first_failed (task_bounds rows tick.0 k) }
 {
@@ -132,10 +131,10 @@ fn server_standing(tick: Micros, servers: usize, s: ServerLine) -> Standing
     requires { tick_keeps tick.0 ≡ true }
     ensures { result ≡ server_standing tick.0 servers s }
 {
-    if let Found::At(field) = server_bounds(servers, tick, s) {
+    if let Some(field) = server_bounds(servers, tick, s) {
         return Standing::Broken(Refusal::OutOfBounds, field);
     }
-    if let Found::At(field) = server_whole(tick, s) {
+    if let Some(field) = server_whole(tick, s) {
         return Standing::Broken(Refusal::NotWhole, field);
     }
     Standing::Kept
@@ -152,7 +151,7 @@ fn task_standing(
     requires { tick_keeps tick.0 ≡ true }
     ensures { result ≡ task_standing tick.0 h d count tasks k }
 {
-    if let Found::At(field) = task_bounds(tasks, tick, k) {
+    if let Some(field) = task_bounds(tasks, tick, k) {
         return Standing::Broken(Refusal::OutOfBounds, field);
     }
     let x = k.limit;

@@ -1,5 +1,6 @@
 -- A file read in pieces: what stands after a batch of lines of a piece, that a piece after another is
 -- one piece, and that the page of all of them is the report of the file. Assumes nothing.
+use Rattle.std.proofs.Common.{None, Option, Some}
 use mathlib.Core.Path.{◌≡◌, refl, sym, ap, subst, ◌∙◌}
 use mathlib.Core.Bool.{true}
 use mathlib.Core.List.{List, [], ◌∷◌, ◌++◌, append-nil, append_assoc}
@@ -20,8 +21,6 @@ use Rattle.events.specs.Boxes.{after_lines_in}
 use Rattle.run.specs.declared.Run.{Run}
 use Rattle.run.specs.declared.Finding.{Finding}
 use Rattle.events.specs.declared.Event.{Event}
-use Rattle.events.specs.declared.EventLine.{EventLine}
-use Rattle.events.specs.declared.EventLine.TheVariants.{Of, Another}
 use Rattle.run.specs.Sound.{sound}
 use Rattle.run.specs.Release.{fresh_run}
 use Rattle.run.specs.Events.{event_of, the_box}
@@ -54,7 +53,7 @@ use Rattle.report.specs.Inner.Page.{page_in}
 use Rattle.report.specs.Pieces.{Stand, start_with, After, AfterSome, Reads, ReadsSome, ReadsAll, joined, PageOf}
 
 -- the taken ticks among more lines come after those before them
-ticks_join : (r : Run) (ks ls : List EventLine) →
+ticks_join : (r : Run) (ks ls : List (Option Event)) →
     taken_ticks r (events_in (ks ++ ls)) ≡ taken_ticks r (events_in ks) ++ ticks_among (after_lines r ks) ls
 ticks_join r ks ls =
     let before = taken_ticks r (events_in ks) in
@@ -63,11 +62,11 @@ ticks_join r ks ls =
     ap (λ (ms : List TakenTick). before ++ ms) (sym (ticks_among_lem (after_lines r ks) ls))
 
 -- no line changes the table
-lines_table : (r : Run) (ls : List EventLine) → (after_lines r ls).table ≡ r.table
+lines_table : (r : Run) (ls : List (Option Event)) → (after_lines r ls).table ≡ r.table
 unfolding after_lines_in
 lines_table r [] = refl
-lines_table r (Of e ∷ ls) = lines_table (event_of r e).run ls ∙ event_table r e
-lines_table r (Another ∷ ls) = lines_table r ls
+lines_table r (Some e ∷ ls) = lines_table (event_of r e).run ls ∙ event_table r e
+lines_table r (None ∷ ls) = lines_table r ls
 
 -- of some bytes, room for a line takes one at least
 taken_some : (k : ℕ) (bs : List ℕ) → 0 < length bs → 0 < taken_for (suc k) bs
@@ -153,7 +152,7 @@ module _ {s : Stand} {bytes : List ℕ} {at : ℕ} {z : Stand} {values told foun
   abbrev some : List ℕ
   some = take (taken_for 1024 rest) rest
 
-  abbrev lines : List EventLine
+  abbrev lines : List (Option Event)
   lines = lines_in (line_in z.held) some
 
   abbrev new : List TakenTick
@@ -225,7 +224,7 @@ module _ {s : Stand} {bytes : List ℕ} {at : ℕ} {z : Stand} {values told foun
             omega (arith, b.going.told_long),
             omega (arith, b.going.found_long),
           ) ∙
-          ap (λ (ls : List EventLine). taken_finding z.run ls told found) said
+          ap (λ (ls : List (Option Event)). taken_finding z.run ls told found) said
 
       -- the ticks that were taken, as they are handed to the counting
       handed : (t : Table) (ahead : List ℕ) → After t ahead z →

@@ -1,4 +1,5 @@
 -- What the writer leaves in room enough is the text that rewrite prints. Assumes nothing.
+use Rattle.std.proofs.Common.{Err, Ok, Result}
 use mathlib.Core.Path.{◌≡◌, ap, ◌∙◌}
 use mathlib.Core.Bool.{true, false}
 use mathlib.Core.List.{List}
@@ -10,15 +11,14 @@ use Rattle.laws.proofs.Choice.{true_or_false}
 use Rattle.table.specs.declared.Table.{Table}
 use Rattle.table.specs.Rows.{rows_of}
 use Rattle.table.specs.Rules.{table_keeps}
-use Rattle.text.specs.declared.Writing.{Writing}
-use Rattle.text.specs.declared.Writing.TheVariants.{Written, Refused}
 use Rattle.text.specs.Write.{Wrote, write, wrote}
 use Rattle.text.proofs.RoundTrip.{room_enough}
 use Rattle.rewrite.specs.Rewritten.{rewritten}
+use Rattle.table.specs.declared.Refusal.{Refusal}
 
-abbrev pub many : Writing → ℕ
-many (Written n) = n
-many (Refused why) = 0
+abbrev pub many : Result ℕ Refusal → ℕ
+many (Ok n) = n
+many (Err why) = 0
 
 wrote_front : (t : Table) (room : List ℕ) → 16384 ≤ length room →
     take (many (wrote t room).answer) (wrote t room).room ≡ rewritten t
@@ -32,7 +32,7 @@ wrote_front t room h = go (true_or_false (table_keeps t))
         rw (room_enough t room e h, e) (take-append_seam text (drop (length text) room))
     go (inr e) = rw e
 
-pub front : (t : Table) (room : List ℕ) → 16384 ≤ length room → (w : Writing) (left : List ℕ) →
+pub front : (t : Table) (room : List ℕ) → 16384 ≤ length room → (w : Result ℕ Refusal) (left : List ℕ) →
     record { answer = w; room = left } ≡ wrote t room → (n : ℕ) → n ≡ many w →
     take n left ≡ rewritten t
 front t room h w left e n m =

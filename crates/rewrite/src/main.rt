@@ -9,7 +9,7 @@ use files::given::{Case, say_refused};
 use std::process::ExitCode;
 use std::rt::Runtime;
 use table::Table;
-use text::{LONGEST_TEXT, Writing};
+use text::LONGEST_TEXT;
 
 // The text of a table at the front of the room: how many bytes it has.
 fn text_of(t: Table, room: &mut [u8]) -> usize
@@ -17,8 +17,8 @@ fn text_of(t: Table, room: &mut [u8]) -> usize
     ensures { take result room.new ≡ rewritten t }
 {
     match writer::write_table(t, room) {
-        Writing::Written(n) => n,
-        Writing::Refused(_) => 0,
+        Ok(n) => n,
+        Err(_) => 0,
     }
 }
 

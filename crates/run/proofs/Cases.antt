@@ -1,6 +1,7 @@
 -- Small runs on the table of document 01's example, worked out by hand from its words, and
 -- computed. The laws say more than these; but a slip in a definition shows here as an equation that
 -- is false. Assumes nothing.
+use Rattle.std.proofs.Common.{Some}
 use mathlib.Core.Path.{◌≡◌, refl}
 use mathlib.Core.Bool.{true, false}
 use mathlib.Core.List.{List, [], ◌∷◌, ◌++◌, map}
@@ -16,7 +17,6 @@ use Rattle.table.specs.declared.Mode.TheVariants.{N, D1, D2}
 use Rattle.table.specs.declared.Table.{Table}
 use Rattle.table.specs.Rows.{table_of}
 use Rattle.table.specs.Rules.{table_keeps, keeps, server_keeps, task_keeps, task_fault, task_stands, differ}
-use Rattle.queues.specs.declared.Last.TheVariants.{Job}
 use Rattle.events.specs.Boxes.{after_in, answers_in}
 use Rattle.run.specs.declared.State.{State}
 use Rattle.events.specs.declared.Turn.{Turn}
@@ -287,7 +287,7 @@ spent i used elapsed = with_budgets fresh (set fresh.used i used) (set fresh.ela
 
 -- a state with task 0 as the last-run one and so many ticks taken
 abbrev last_ran : State → ℕ → State
-last_ran s ticks = with_counts (with_last s (Job 0)) (record { 0 = ticks }) s.accepted
+last_ran s ticks = with_counts (with_last s (Some 0)) (record { 0 = ticks }) s.accepted
 
 -- 13: a table without rows; each clause of a sound state broken, a bound by one; and the states
 -- beside them

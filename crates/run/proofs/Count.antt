@@ -1,6 +1,7 @@
 -- Every job that was released was finished, cut or discarded, or waits still: in all, counted from
 -- the answers alone, and task by task. Each event keeps the sum, since in a sound state the job
 -- that leaves was waiting. Assumes nothing.
+use Rattle.std.proofs.Common.{None, Option, Some}
 use mathlib.Core.Path.{◌≡◌, refl, ap, sym, subst, ◌∙◌}
 use mathlib.Core.Bool.{Bool, true, false, ◌&&◌}
 use mathlib.Core.List.{List, [], ◌∷◌}
@@ -17,8 +18,6 @@ use Rattle.table.specs.Inner.{Sized}
 use Rattle.table.specs.Rows.{task_at, is_low}
 use Rattle.table.specs.Rules.{table_keeps}
 use Rattle.table.proofs.Rules.{TableRules, table_rules}
-use Rattle.queues.specs.declared.Last.{Last}
-use Rattle.queues.specs.declared.Last.TheVariants.{NoJob, Job}
 use Rattle.run.specs.declared.State.{State}
 use Rattle.run.specs.declared.Run.{Run}
 use Rattle.events.specs.declared.Event.{Event}
@@ -42,12 +41,12 @@ use Rattle.run.proofs.Sound.{LastSound, StateSound, sound_table, sound_state_lem
 use Rattle.run.proofs.Steps.{waiting_settled, waiting_after}
 use Rattle.run.proofs.Kept.{waiting_released, event_keeps, fresh_keeps}
 
-pub left_below : (t : Table) (s : State) (mark : Bool) (l : Last) → LastSound t s l →
+pub left_below : (t : Table) (s : State) (mark : Bool) (l : Option ℕ) → LastSound t s l →
     LeftBelow t.ntasks (step1 t s mark l).left
 unfolding step1
-left_below t s mark NoJob q = tt
-left_below t s true (Job j) q = q.below
-left_below t s false (Job j) q =
+left_below t s mark None q = tt
+left_below t s true (Some j) q = q.below
+left_below t s false (Some j) q =
     if_ind
     (λ (m : Marked). LeftBelow t.ntasks m.left)
     (judge 3 (task_at t j) (runs_at s j) s.mode).cut

@@ -1,5 +1,6 @@
 -- Many event lines at once: what is told to some lines and then to others, one line after the
 -- other; a sound run stays sound over them. Assumes nothing.
+use Rattle.std.proofs.Common.{None, Option, Some}
 use mathlib.Core.Path.{◌≡◌, refl, ap, subst, ◌∙◌}
 use mathlib.Core.Bool.{Bool, true, false, ◌&&◌}
 use mathlib.Core.List.{List, [], ◌∷◌}
@@ -20,8 +21,6 @@ use Rattle.events.specs.declared.Answer.TheVariants.{No as AnswerNo}
 use Rattle.run.specs.declared.Answered.{Answered}
 use Rattle.events.specs.declared.Event.{Event}
 use Rattle.events.specs.declared.Event.TheVariants.{Release, Tick}
-use Rattle.events.specs.declared.EventLine.{EventLine}
-use Rattle.events.specs.declared.EventLine.TheVariants.{Of, Another}
 use Rattle.events.specs.declared.Told.{Told}
 use Rattle.events.specs.declared.Told.TheVariants.{No, Released, Ticked}
 use Rattle.run.specs.Sound.{sound}
@@ -47,11 +46,11 @@ TickTold (No number) ms = ms ≡ []
 TickTold (Released k) ms = ms ≡ []
 TickTold (Ticked a) ms = (m : TakenTick) × (ms ≡ m ∷ []) × (m.answer ≡ a)
 
-pub tick_told : (r : Run) (l : EventLine) → TickTold (told_to r l) (ticks_at r l)
-tick_told r Another = refl
-tick_told r (Of (Release k)) =
+pub tick_told : (r : Run) (l : Option Event) → TickTold (told_to r l) (ticks_at r l)
+tick_told r None = refl
+tick_told r (Some (Release k)) =
     release_ind (λ (a : Answered). TickTold (told_of a.answer) []) r k (λ why. refl) (λ y. refl)
-tick_told r (Of (Tick mark)) = go (tick_of r mark).answer
+tick_told r (Some (Tick mark)) = go (tick_of r mark).answer
   where
     go : (a : Answer) → TickTold (told_of a) (taken_by r (Tick mark) a)
     go (AnswerReleased k) = refl
@@ -59,7 +58,7 @@ tick_told r (Of (Tick mark)) = go (tick_of r mark).answer
     go (AnswerNo why) = refl
 
 -- A run keeps its shape over lines, and stays sound.
-pub lines_keep : (r : Run) (ls : List EventLine) → RunShaped r → sound r ≡ true →
+pub lines_keep : (r : Run) (ls : List (Option Event)) → RunShaped r → sound r ≡ true →
     RunShaped (after_lines r ls) × (sound (after_lines r ls) ≡ true)
 lines_keep r ls h q =
     lines-keep-in the_box (λ (r : Run). RunShaped r × (sound r ≡ true))
@@ -76,7 +75,7 @@ door_ind : {A : Type 0} (P : A → Type 0) (r : Run) (enough : Bool) {x y z : A}
 door_ind P r enough c13 c12 y = if_ind P (sound r) (λ e. if_ind P enough (y e) (c12 e)) c13
 
 module _ (r : Run) (values room : List ℕ) where
-  abbrev lines : List EventLine
+  abbrev lines : List (Option Event)
   lines = lines_said values
 
   -- "lent room shorter than the text"

@@ -1,6 +1,7 @@
 -- 01, Numbers for no: "Each is given exactly in its case", "state as it was", "Others: 13 first;
 -- release 6, 7, 8, 10; tick 9, 10". The tests stand in that order in the definitions, and each
 -- answer is the first that fails. Assumes nothing.
+use Rattle.std.proofs.Common.{None, Option}
 use mathlib.Core.Path.{ap, ◌≡◌, refl, subst}
 use mathlib.Core.Bool.{Bool, true, false, not, ◌&&◌}
 use mathlib.Core.List.{List, [], ◌∷◌}
@@ -18,8 +19,6 @@ use Rattle.table.specs.declared.Refusal.{Refusal}
 use Rattle.table.specs.declared.Table.{Table}
 use Rattle.table.specs.Rows.{task_at, is_low, is_d2}
 use Rattle.table.specs.Rules.{table_keeps}
-use Rattle.queues.specs.declared.Last.{Last}
-use Rattle.queues.specs.declared.Last.TheVariants.{NoJob}
 use Rattle.events.specs.Boxes.{after_in}
 use Rattle.run.specs.declared.Run.{Run}
 use Rattle.events.specs.declared.Event.{Event}
@@ -186,7 +185,7 @@ module _ (r : Run) (k : ℕ) where
 
 -- The same for a tick.
 module _ (r : Run) (mark : Bool) where
-  abbrev last : Last
+  abbrev last : Option ℕ
   last = r.state.last
 
   abbrev ticks : ℕ
@@ -197,7 +196,7 @@ module _ (r : Run) (mark : Bool) where
 
   -- "mark 1, but no tick was taken yet or the last one ran no job"
   abbrev NoJobRan : Type 0
-  NoJobRan = (mark ≡ true) × (last ≡ NoJob)
+  NoJobRan = (mark ≡ true) × (last ≡ None)
 
   abbrev Tick9 : Type 0
   Tick9 = (sound r ≡ true) × NoJobRan

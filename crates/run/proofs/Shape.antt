@@ -1,6 +1,7 @@
 -- The arrays of a state are lists here: they have 32 and 64 rows in a fresh state, and every event
 -- keeps their lengths, since rows are only set or made anew. Beside it, what steps 1 to 3 leave as
 -- it was. Assumes nothing.
+use Rattle.std.proofs.Common.{None, Option, Some}
 use mathlib.Core.Path.{◌≡◌, refl, ap, sym, subst, ◌∙◌}
 use mathlib.Core.Bool.{Bool, true, false}
 use Prim.Native.Nat.{ℕ}
@@ -12,8 +13,6 @@ use Rattle.table.specs.declared.Mode.TheVariants.{N}
 use Rattle.table.specs.declared.Table.{Table}
 use Rattle.table.specs.Rows.{task_at}
 use Rattle.table.specs.Inner.{Sized}
-use Rattle.queues.specs.declared.Last.{Last}
-use Rattle.queues.specs.declared.Last.TheVariants.{NoJob, Job}
 use Rattle.run.specs.declared.State.{State}
 use Rattle.run.specs.declared.Run.{Run}
 use Rattle.events.specs.declared.Turn.{Turn}
@@ -86,11 +85,11 @@ alike_shaped a h =
       runs = a.runs ∙ h.runs;
     }
 
-pub step1_alike : (t : Table) (s : State) (mark : Bool) (l : Last) → Alike s (step1 t s mark l).state
+pub step1_alike : (t : Table) (s : State) (mark : Bool) (l : Option ℕ) → Alike s (step1 t s mark l).state
 unfolding step1
-step1_alike t s mark NoJob = mode_alike s s.mode
-step1_alike t s true (Job k) = front_alike s s.mode k
-step1_alike t s false (Job k) =
+step1_alike t s mark None = mode_alike s s.mode
+step1_alike t s true (Some k) = front_alike s s.mode k
+step1_alike t s false (Some k) =
     let j = judge 3 (task_at t k) (runs_at s k) s.mode in
     if_ind (λ (m : Marked). Alike s m.state) j.cut (λ e. front_alike s j.mode k) (λ e. mode_alike s j.mode)
 

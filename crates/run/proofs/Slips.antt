@@ -1,6 +1,6 @@
 -- The slips that document 01 warns of, and others that its reader would ask about, are not
 -- made, each by a few lines from the laws. Assumes nothing.
-use Rattle.std.specs.Prelude.{if◌then◌else◌}
+use Rattle.std.specs.Prelude.{if◌then◌else◌, None, Option, Some}
 use mathlib.Core.Path.{◌≡◌, refl, ap, ◌∙◌}
 use mathlib.Core.List.{List}
 use mathlib.Core.Bool.{Bool, true, false}
@@ -20,8 +20,6 @@ use Rattle.table.specs.Rows.{task_at, period_at, limit_at, in_mode, is_low}
 use Rattle.table.specs.Inner.{Sized}
 use Rattle.table.specs.Rules.{table_keeps}
 use Rattle.table.proofs.Rules.{TableRules}
-use Rattle.queues.specs.declared.Last.{Last}
-use Rattle.queues.specs.declared.Last.TheVariants.{NoJob, Job}
 use Rattle.events.specs.declared.Left.{Left}
 use Rattle.events.specs.declared.Left.TheVariants.{Nobody, Done, Cut}
 use Rattle.run.specs.declared.State.{State}
@@ -77,18 +75,18 @@ release_twice r k h e d =
 -- First in, first out. A queue is a number of waiting jobs and the run count of the front one: a
 -- release leaves that run count alone (above), only the job that was last run leaves with a mark or
 -- a cut, and the one behind it starts at 0.
-pub mark_finishes : (t : Table) (s : State) (k : ℕ) → s.last ≡ Job k → (settle t s true).left ≡ Done k
+pub mark_finishes : (t : Table) (s : State) (k : ℕ) → s.last ≡ Some k → (settle t s true).left ≡ Done k
 unfolding settle step1
-mark_finishes t s k e = ap (λ (l : Last). (step1 t s true l).left) e
+mark_finishes t s k e = ap (λ (l : Option ℕ). (step1 t s true l).left) e
 
 -- the job that left by step 1, finished or cut, was the last-run one; the next starts at 0
-gone_anew : (t : Table) (s : State) (mark : Bool) (l : Last) (k : ℕ) → k < length s.runs →
+gone_anew : (t : Table) (s : State) (mark : Bool) (l : Option ℕ) (k : ℕ) → k < length s.runs →
     finished_by (step1 t s mark l).left k + cut_by (step1 t s mark l).left k ≡ 1 → runs_at (step1 t s mark l).state k ≡ 0
 unfolding step1
-gone_anew t s mark NoJob k l = λ e. absurd (omega arith)
-gone_anew t s true (Job j) k l =
+gone_anew t s mark None k l = λ e. absurd (omega arith)
+gone_anew t s true (Some j) k l =
     λ e. let q : j ≡ k = one_eq j k (omega arith) in set_at s.runs j 0 k (omega arith) q
-gone_anew t s false (Job j) k l =
+gone_anew t s false (Some j) k l =
     if_ind
     (λ (z : Marked). finished_by z.left k + cut_by z.left k ≡ 1 → runs_at z.state k ≡ 0)
     (judge 3 (task_at t j) (runs_at s j) s.mode).cut
@@ -152,7 +150,7 @@ waits_on t m s k many h l w low =
 
 -- In a whole tick: the job that is below its limit in D2 stays, and the tick is in D2; the one that
 -- is at it is cut.
-again_one : (t : Table) (s : State) (k : ℕ) (b : Bool) → s.last ≡ Job k → s.mode ≡ N →
+again_one : (t : Table) (s : State) (k : ℕ) (b : Bool) → s.last ≡ Some k → s.mode ≡ N →
     (task_at t k).level ≡ HI →
     runs_at s k ≡ limit_at t N k → runs_at s k ≡ limit_at t D1 k → eqb (runs_at s k) (limit_at t D2 k) ≡ b →
     step1 t s false s.last ≡ judged s k (record { mode = D2; cut = b })
@@ -165,7 +163,7 @@ again_one t s k b last mode high n d e =
     ap (λ (b : Bool). record { mode = D2; cut = b }) e)
 
 pub rises_twice : (t : Table) (s : State) (k : ℕ) → t.ntasks ≤ 64 → Shaped s → k < t.ntasks → 0 < waiting_at s k →
-    s.last ≡ Job k → s.mode ≡ N → (task_at t k).level ≡ HI →
+    s.last ≡ Some k → s.mode ≡ N → (task_at t k).level ≡ HI →
     runs_at s k ≡ limit_at t N k → runs_at s k ≡ limit_at t D1 k → runs_at s k < limit_at t D2 k →
     ((tick_taken t s false).answer.mode ≡ D2) × ((tick_taken t s false).answer.left ≡ Nobody)
 unfolding tick_taken settle step4
@@ -178,7 +176,7 @@ rises_twice t s k many h l w last mode high n d b =
     stays : (step3 t (step2 t s.mode (with_mode s D2))).mode ≡ D2
     stays = waits_on t s.mode (with_mode s D2) k many (alike_shaped (mode_alike s D2) h) l w (ap is_low high)
 
-pub cut_at_once : (t : Table) (s : State) (k : ℕ) → s.last ≡ Job k → s.mode ≡ N → (task_at t k).level ≡ HI →
+pub cut_at_once : (t : Table) (s : State) (k : ℕ) → s.last ≡ Some k → s.mode ≡ N → (task_at t k).level ≡ HI →
     runs_at s k ≡ limit_at t N k → runs_at s k ≡ limit_at t D1 k → runs_at s k ≡ limit_at t D2 k →
     (tick_taken t s false).answer.left ≡ Cut k
 unfolding tick_taken settle
@@ -199,17 +197,17 @@ tick_from t s one left =
     } in
     record { answer = tick_answer t s.ticks z; state = advance t z.state (choose t z.state) }
 
-pub tick_done : (t : Table) (s : State) (k : ℕ) → s.last ≡ Job k →
+pub tick_done : (t : Table) (s : State) (k : ℕ) → s.last ≡ Some k →
     tick_taken t s true ≡ tick_from t s (without_front s k) (Done k)
 unfolding tick_taken settle step1
 tick_done t s k last =
-    ap (λ (l : Last). let one = step1 t s true l in tick_from t s one.state one.left) last
+    ap (λ (l : Option ℕ). let one = step1 t s true l in tick_from t s one.state one.left) last
 
-pub tick_cut : (t : Table) (s : State) (k : ℕ) → s.last ≡ Job k → runs_at s k ≡ limit_at t s.mode k →
+pub tick_cut : (t : Table) (s : State) (k : ℕ) → s.last ≡ Some k → runs_at s k ≡ limit_at t s.mode k →
     raises s.mode (task_at t k).level ≡ false → tick_taken t s false ≡ tick_from t s (without_front s k) (Cut k)
 unfolding tick_taken settle step1
 tick_cut t s k last n u =
-    ap (λ (l : Last). let one = step1 t s false l in tick_from t s one.state one.left) last ∙
+    ap (λ (l : Option ℕ). let one = step1 t s false l in tick_from t s one.state one.left) last ∙
     ap (λ (j : Judged). let one = judged s k j in tick_from t s one.state one.left)
     (is_cut 2 (task_at t k) (runs_at s k) s.mode n u)
 

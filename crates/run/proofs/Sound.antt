@@ -1,6 +1,7 @@
 -- What it says that a run is sound, clause by clause, as plain facts of its rows and counts; and
 -- back: from the facts, that it is sound. So 13 is answered exactly where one of these facts is
 -- broken. Assumes nothing.
+use Rattle.std.proofs.Common.{Option}
 use mathlib.Core.Path.{◌≡◌, refl}
 use mathlib.Core.Bool.{Bool, true, false, not, ◌&&◌, ◌||◌}
 use mathlib.Core.List.{[], ◌∷◌}
@@ -17,7 +18,6 @@ use Rattle.laws.proofs.Rows.{all_at, all_build}
 use Rattle.table.specs.declared.Table.{Table}
 use Rattle.table.specs.Rows.{server_at, task_at, period_at, limit_at, is_low, largest, is_d2}
 use Rattle.table.specs.Rules.{table_keeps}
-use Rattle.queues.specs.declared.Last.{Last}
 use Rattle.run.specs.declared.State.{State}
 use Rattle.run.specs.declared.Run.{Run}
 use Rattle.queues.proofs.Sound.{QueueSound, LastSound as LastSoundIn, JobSound as JobSoundIn, CountsSound as CountsSoundIn}
@@ -42,7 +42,7 @@ pub record TaskSound (t : Table) (s : State) (k : ℕ) : Type 0 where
   pub low : is_d2 s.mode ≡ true → is_low (task_at t k).level ≡ true → waiting_at s k ≡ 0
 
 -- the last-run task, and the counts: as in every box
-abbrev pub LastSound : Table → State → Last → Type 0
+abbrev pub LastSound : Table → State → Option ℕ → Type 0
 LastSound t s l = LastSoundIn t.ntasks (queues_of s) s.ticks.0 l
 
 abbrev pub JobSound : Table → State → ℕ → Type 0

@@ -1,7 +1,7 @@
 -- The tasks' rows through a tick. Steps 1 to 3 only take jobs away, each counted; after them no job
 -- is at its limit, and no LO job waits in D2. Steps 4 to 7 leave the queues alone but for the run
 -- count of the job that runs. Assumes nothing.
-use Rattle.std.specs.Prelude.{if◌then◌else◌, if◌then◌else◌}
+use Rattle.std.specs.Prelude.{if◌then◌else◌, if◌then◌else◌, None, Option, Some}
 use mathlib.Core.Path.{◌≡◌, refl, ap, sym, subst, ◌∙◌}
 use mathlib.Core.Bool.{Bool, true, false, not, ◌&&◌}
 use mathlib.Core.Logic.{◌⊎◌, inl, inr, ◌↔◌}
@@ -19,8 +19,6 @@ use Rattle.table.specs.declared.Table.{Table}
 use Rattle.table.specs.Rows.{task_at, limit_at, is_low, is_d2}
 use Rattle.table.proofs.Rows.{d2_exactly, low_exactly}
 use Rattle.table.proofs.Rules.{TableRules}
-use Rattle.queues.specs.declared.Last.{Last}
-use Rattle.queues.specs.declared.Last.TheVariants.{NoJob, Job}
 use Rattle.run.specs.declared.State.{State}
 use Rattle.run.specs.State.{queues_of, waiting_at, runs_at, task_waits, some_waits, with_mode}
 use Rattle.queues.specs.Queues.{is_last}
@@ -50,26 +48,26 @@ judged_waiting s j v k l w =
     (λ e. omega (arith, front_gone_lem (queues_of s) j k l w))
     (λ e. omega arith)
 
-pub step1_waiting : (t : Table) (s : State) (mark : Bool) (l : Last) → t.ntasks ≤ 64 → Shaped s → LastSound t s l →
+pub step1_waiting : (t : Table) (s : State) (mark : Bool) (l : Option ℕ) → t.ntasks ≤ 64 → Shaped s → LastSound t s l →
     (k : ℕ) →
     waiting_at (step1 t s mark l).state k +
     (finished_by (step1 t s mark l).left k + cut_by (step1 t s mark l).left k) ≡
     waiting_at s k
 unfolding step1
-step1_waiting t s mark NoJob many h q k = omega arith
-step1_waiting t s true (Job j) many h q k =
+step1_waiting t s mark None many h q k = omega arith
+step1_waiting t s true (Some j) many h q k =
     omega (arith, front_gone_lem (queues_of s) j k (omega (arith, h.waiting, q.below)) q.waits)
-step1_waiting t s false (Job j) many h q k =
+step1_waiting t s false (Some j) many h q k =
     judged_waiting s j (judge 3 (task_at t j) (runs_at s j) s.mode) k (omega (arith, h.waiting, q.below)) q.waits
 
 -- a front job that stays has run as many ticks
-pub runs_stay : (t : Table) (s : State) (mark : Bool) (l : Last) (k : ℕ) →
+pub runs_stay : (t : Table) (s : State) (mark : Bool) (l : Option ℕ) (k : ℕ) →
     finished_by (step1 t s mark l).left k + cut_by (step1 t s mark l).left k ≡ 0 →
     runs_at (step1 t s mark l).state k ≡ runs_at s k
 unfolding step1
-runs_stay t s mark NoJob k = λ e. refl
-runs_stay t s true (Job j) k = λ e. set_past s.runs j 0 k (λ q. omega (arith, one_here j k q))
-runs_stay t s false (Job j) k =
+runs_stay t s mark None k = λ e. refl
+runs_stay t s true (Some j) k = λ e. set_past s.runs j 0 k (λ q. omega (arith, one_here j k q))
+runs_stay t s false (Some j) k =
     if_ind
     (λ (z : Marked). finished_by z.left k + cut_by z.left k ≡ 0 → runs_at z.state k ≡ runs_at s k)
     (judge 3 (task_at t j) (runs_at s j) s.mode).cut
@@ -148,7 +146,7 @@ below_unless_last : (t : Table) (s : State) (k : ℕ) → TaskSound t s k → (i
 below_unless_last t s k f =
     other_below (limit_at t s.mode k) (waiting_at s k) (runs_at s k) (is_last s.last k) (task_queue t s k f)
 
-judged_row : (t : Table) (s : State) (j : ℕ) (v : Judged) → s.last ≡ Job j → TableRules t → Shaped s → j < t.ntasks →
+judged_row : (t : Table) (s : State) (j : ℕ) (v : Judged) → s.last ≡ Some j → TableRules t → Shaped s → j < t.ntasks →
     JudgedRight (task_at t j) (runs_at s j) s.mode v → (k : ℕ) → k < t.ntasks → TaskSound t s k →
     JudgedRow t (judged s j v).state k
 judged_row t s j v last rules h below right k l f = go (same_or_not j k)
@@ -181,7 +179,7 @@ judged_row t s j v last rules h below right k l f = go (same_or_not j k)
         (λ c. other_judged (queues_of s) j k (limit_at t v.mode k) n (other n))
         (λ c. other n)
 
-finished_row : (t : Table) (s : State) (j : ℕ) → s.last ≡ Job j → TableRules t → Shaped s → j < t.ntasks →
+finished_row : (t : Table) (s : State) (j : ℕ) → s.last ≡ Some j → TableRules t → Shaped s → j < t.ntasks →
     (k : ℕ) → k < t.ntasks → TaskSound t s k → (j ≡ k) ⊎ (j ≡ k → ⊥) → JudgedRow t (without_front s j) k
 finished_row t s j last rules h below k l f (inl e) =
     gone_judged (queues_of s) j k (limit_at t s.mode k) (omega (arith, rules.tasks_high, h.waiting))
@@ -190,16 +188,16 @@ finished_row t s j last rules h below k l f (inr n) =
     other_judged (queues_of s) j k (limit_at t s.mode k) n
     (risen_row t s s.mode k f (below_unless_last t s k f (λ e. n (eqb-true j k (rw last at e)))))
 
-pub step1_row : (t : Table) (s : State) (mark : Bool) (l : Last) → s.last ≡ l → TableRules t → Shaped s →
+pub step1_row : (t : Table) (s : State) (mark : Bool) (l : Option ℕ) → s.last ≡ l → TableRules t → Shaped s →
     StateSound t s →
     (k : ℕ) → k < t.ntasks → JudgedRow t (step1 t s mark l).state k
 unfolding step1
-step1_row t s mark NoJob last rules h f k l =
+step1_row t s mark None last rules h f k l =
     risen_row t s s.mode k (f.tasks k l)
     (below_unless_last t s k (f.tasks k l) (λ e. clash false (rw last at e) refl))
-step1_row t s true (Job j) last rules h f k l =
+step1_row t s true (Some j) last rules h f k l =
     finished_row t s j last rules h (subst (LastSound t s) last f.last).below k l (f.tasks k l) (same_or_not j k)
-step1_row t s false (Job j) last rules h f k l =
+step1_row t s false (Some j) last rules h f k l =
     let q : JobSound t s j = subst (LastSound t s) last f.last in
     judged_row t s j (judge 3 (task_at t j) (runs_at s j) s.mode) last rules h q.below
     (judged_right (task_at t j) (runs_at s j) s.mode (limits_rise t rules j q.below)

@@ -1,7 +1,7 @@
 -- The laws of one tick, T1 to T6: what it does to a server's counts, who is charged, and whose job
 -- runs. In them z is the state that step 5 finds, `(settle t s mark).state`, and the turn is `choose
 -- t z`. Each is read off the steps and off the law of the highest row. Assumes nothing.
-use Rattle.std.specs.Prelude.{if◌then◌else◌}
+use Rattle.std.specs.Prelude.{if◌then◌else◌, None, Option, Some}
 use mathlib.Core.Path.{◌≡◌, refl, ap, sym, ◌∙◌}
 use mathlib.Core.Bool.{Bool, true, false, ◌||◌}
 use mathlib.Core.Logic.{◌⊎◌, inl, inr, ◌↔◌}
@@ -9,8 +9,6 @@ use Prim.Native.Nat.{ℕ, ◌+◌, ◌≤◌, ◌<◌}
 use native.Mathlib.Omega.{arith}
 use lib.Dec.{leb, ltb, eqb}
 use borrow.Author.Tests.{leb-false, lt-leb, ltb-true, lt-ltb, eqb-true}
-use Rattle.laws.specs.declared.Found.{Found}
-use Rattle.laws.specs.declared.Found.TheVariants.{At, Nothing}
 use Rattle.laws.proofs.Choice.{clash, and_left, and_right, and_true, or_true_left, or_true_right, or_cases, le_or_lt, true_or_false}
 use Rattle.laws.proofs.Rows.{any_found, any_at}
 use Rattle.laws.proofs.Anew.{anew_at}
@@ -21,7 +19,6 @@ use Rattle.table.specs.declared.Mode.TheVariants.{N, D1, D2}
 use Rattle.table.specs.declared.Task.{Task}
 use Rattle.table.specs.declared.Table.{Table}
 use Rattle.table.specs.Rows.{server_at, task_at, period_at, priority_at, phase_at, capacity_at, task_priority_at, is_timed}
-use Rattle.queues.specs.declared.Last.TheVariants.{Job}
 use Rattle.run.specs.declared.State.{State}
 use Rattle.events.specs.declared.Turn.{Turn}
 use Rattle.events.specs.declared.Turn.TheVariants.{Run as Ran, Empty, Idle}
@@ -132,24 +129,24 @@ pub mode_released : (s : State) (k : ℕ) → (with_job s k).mode ≡ s.mode
 mode_released s k = refl
 
 -- Who is charged is the highest able server.
-charged_turn : (j : ℕ) (a : Found) (i : ℕ) → charged (turn_of j a) i ≡ one j i
-charged_turn j (At k) i = refl
-charged_turn j Nothing i = refl
+charged_turn : (j : ℕ) (a : Option ℕ) (i : ℕ) → charged (turn_of j a) i ≡ one j i
+charged_turn j (Some k) i = refl
+charged_turn j None i = refl
 
-pub highest_charged : (t : Table) (z : State) (j i : ℕ) → highest_able t z ≡ At j → charged (choose t z) i ≡ one j i
+pub highest_charged : (t : Table) (z : State) (j i : ℕ) → highest_able t z ≡ Some j → charged (choose t z) i ≡ one j i
 unfolding choose
 highest_charged t z j i e = rw e (charged_turn j (highest_task t z j) i)
 
-pub none_charged : (t : Table) (z : State) (i : ℕ) → highest_able t z ≡ Nothing → charged (choose t z) i ≡ 0
+pub none_charged : (t : Table) (z : State) (i : ℕ) → highest_able t z ≡ None → charged (choose t z) i ≡ 0
 unfolding choose
 none_charged t z i e = rw e
 
-pub charged_highest : (t : Table) (z : State) (i : ℕ) → charged (choose t z) i ≡ 1 → highest_able t z ≡ At i
+pub charged_highest : (t : Table) (z : State) (i : ℕ) → charged (choose t z) i ≡ 1 → highest_able t z ≡ Some i
 charged_highest t z i c = go (highest_able t z) refl
   where
-    go : (a : Found) → highest_able t z ≡ a → highest_able t z ≡ At i
-    go (At j) e = e ∙ ap At (one_eq j i (sym (highest_charged t z j i e) ∙ c))
-    go Nothing e = absurd (omega (arith, none_charged t z i e))
+    go : (a : Option ℕ) → highest_able t z ≡ a → highest_able t z ≡ Some i
+    go (Some j) e = e ∙ ap Some (one_eq j i (sym (highest_charged t z j i e) ∙ c))
+    go None e = absurd (omega (arith, none_charged t z i e))
 
 -- T2
 pub charged_able : (t : Table) (z : State) (i : ℕ) → charged (choose t z) i ≡ 1 →
@@ -167,7 +164,7 @@ pub able_charged : (t : Table) (z : State) (i : ℕ) → i < t.nservers → able
 unfolding highest_able
 able_charged t z i l a d = go (highest_able t z) refl
   where
-    by : (j : ℕ) → highest_able t z ≡ At j → j < t.nservers → priority_at t i ≤ priority_at t j →
+    by : (j : ℕ) → highest_able t z ≡ Some j → j < t.nservers → priority_at t i ≤ priority_at t j →
         (priority_at t j ≤ priority_at t i) ⊎ (priority_at t i < priority_at t j) →
         (charged (choose t z) i ≡ 1) ⊎
         ((j : ℕ) × (j < t.nservers) × (priority_at t i < priority_at t j) × (charged (choose t z) j ≡ 1))
@@ -176,13 +173,13 @@ able_charged t z i l a d = go (highest_able t z) refl
         inl (highest_charged t z j i e ∙ rw same (one_same j))
     by j e m p (inr q) = inr (j, m, q, highest_charged t z j j e ∙ one_same j)
 
-    go : (f : Found) → highest_able t z ≡ f →
+    go : (f : Option ℕ) → highest_able t z ≡ f →
         (charged (choose t z) i ≡ 1) ⊎
         ((j : ℕ) × (j < t.nservers) × (priority_at t i < priority_at t j) × (charged (choose t z) j ≡ 1))
-    go (At j) e =
+    go (Some j) e =
         let h = highest_at (able t z) (priority_at t) t.nservers j e in
         by j e h.below (h.top i l a) (le_or_lt (priority_at t j) (priority_at t i))
-    go Nothing e =
+    go None e =
         absurd (clash (able t z i) a (highest_none (able t z) (priority_at t) t.nservers e i l))
 
 -- T4
@@ -274,7 +271,7 @@ able_cause t z i a =
 
 -- T6. Server i is charged and runs the front job of its highest task with a waiting job, task k.
 pub record RunsFront (t : Table) (z : State) (i k : ℕ) : Type 0 where
-  pub found : highest_task t z i ≡ At k
+  pub found : highest_task t z i ≡ Some k
   pub turn : choose t z ≡ Ran i k
   pub ran : ran (choose t z) k ≡ 1
   pub below : k < t.ntasks
@@ -282,7 +279,7 @@ pub record RunsFront (t : Table) (z : State) (i k : ℕ) : Type 0 where
   pub belongs : owner z.mode (task_at t k) ≡ i
   pub top : (j : ℕ) → j < t.ntasks → waits_for t z i j ≡ true → task_priority_at t j ≤ task_priority_at t k
 
-pub found_front : (t : Table) (z : State) (i k : ℕ) → charged (choose t z) i ≡ 1 → highest_task t z i ≡ At k →
+pub found_front : (t : Table) (z : State) (i k : ℕ) → charged (choose t z) i ≡ 1 → highest_task t z i ≡ Some k →
     RunsFront t z i k
 unfolding highest_task choose
 found_front t z i k c e =
@@ -305,9 +302,9 @@ pub charged_runs : (t : Table) (z : State) (i : ℕ) → charged (choose t z) i 
 unfolding waits highest_task
 charged_runs t z i c w = go (highest_task t z i) refl
   where
-    go : (a : Found) → highest_task t z i ≡ a → (k : ℕ) × RunsFront t z i k
-    go (At k) e = (k, found_front t z i k c e)
-    go Nothing e =
+    go : (a : Option ℕ) → highest_task t z i ≡ a → (k : ℕ) × RunsFront t z i k
+    go (Some k) e = (k, found_front t z i k c e)
+    go None e =
         let f = any_found (waits_for t z i) t.ntasks w in
         absurd
         (clash
@@ -320,18 +317,18 @@ pub ran_front : (t : Table) (z : State) (k : ℕ) → ran (choose t z) k ≡ 1 �
 unfolding choose
 ran_front t z k r = go (highest_able t z) refl
   where
-    task : (i : ℕ) → highest_able t z ≡ At i → (a : Found) → highest_task t z i ≡ a → (i : ℕ) × RunsFront t z i k
-    task i e (At j) q =
+    task : (i : ℕ) → highest_able t z ≡ Some i → (a : Option ℕ) → highest_task t z i ≡ a → (i : ℕ) × RunsFront t z i k
+    task i e (Some j) q =
         let says : choose t z ≡ Ran i j = rw (e, q) in
         let same : j ≡ k = one_eq j k (sym (ap (λ u. ran u k) says) ∙ r) in
-        (i, found_front t z i k (highest_charged t z i i e ∙ one_same i) (q ∙ ap At same))
-    task i e Nothing q =
+        (i, found_front t z i k (highest_charged t z i i e ∙ one_same i) (q ∙ ap Some same))
+    task i e None q =
         let says : choose t z ≡ Empty i = rw (e, q) in
         absurd (omega (arith, ap (λ u. ran u k) says, r))
 
-    go : (a : Found) → highest_able t z ≡ a → (i : ℕ) × RunsFront t z i k
-    go (At i) e = task i e (highest_task t z i) refl
-    go Nothing e =
+    go : (a : Option ℕ) → highest_able t z ≡ a → (i : ℕ) × RunsFront t z i k
+    go (Some i) e = task i e (highest_task t z i) refl
+    go None e =
         let says : choose t z ≡ Idle = rw e in
         absurd (omega (arith, ap (λ u. ran u k) says, r))
 
@@ -340,45 +337,45 @@ pub charged_empty : (t : Table) (z : State) (i : ℕ) → charged (choose t z) i
 unfolding waits highest_task choose
 charged_empty t z i c n = (go (highest_task t z i) refl, kind (able_cause t z i (charged_able t z i c).1))
   where
-    go : (a : Found) → highest_task t z i ≡ a → choose t z ≡ Empty i
-    go (At k) e =
+    go : (a : Option ℕ) → highest_task t z i ≡ a → choose t z ≡ Empty i
+    go (Some k) e =
         let h = highest_at (waits_for t z i) (task_priority_at t) t.ntasks k e in
         absurd (clash (waits t z i) (any_at (waits_for t z i) t.ntasks k h.below h.is) n)
-    go Nothing e = rw (charged_highest t z i c, e)
+    go None e = rw (charged_highest t z i c, e)
 
     kind : (is_timed (server_at t i).kind ≡ true) ⊎ (waits t z i ≡ true) → is_timed (server_at t i).kind ≡ true
     kind (inl k) = k
     kind (inr w) = absurd (clash (waits t z i) w n)
 
 -- What a tick says, by the highest able server and its highest task with a waiting job.
-pub turn_run : (f : ℕ → Found) (a : Found) (i k : ℕ) → turn_for f a ≡ Ran i k → (a ≡ At i) × (f i ≡ At k)
-turn_run f Nothing i k e = let z : ◌≡◌ {A = ℕ} 0 1 = cc in absurd (omega arith)
-turn_run f (At j) i k e = go (f j) refl e
+pub turn_run : (f : ℕ → Option ℕ) (a : Option ℕ) (i k : ℕ) → turn_for f a ≡ Ran i k → (a ≡ Some i) × (f i ≡ Some k)
+turn_run f None i k e = let z : ◌≡◌ {A = ℕ} 0 1 = cc in absurd (omega arith)
+turn_run f (Some j) i k e = go (f j) refl e
   where
-    go : (b : Found) → f j ≡ b → turn_of j b ≡ Ran i k → (At j ≡ At i) × (f i ≡ At k)
-    go (At m) q d = let p : j ≡ i = cc in let o : m ≡ k = cc in (ap At p, rw (← p) (q ∙ ap At o))
-    go Nothing q d = let z : ◌≡◌ {A = ℕ} 0 1 = cc in absurd (omega arith)
+    go : (b : Option ℕ) → f j ≡ b → turn_of j b ≡ Ran i k → (Some j ≡ Some i) × (f i ≡ Some k)
+    go (Some m) q d = let p : j ≡ i = cc in let o : m ≡ k = cc in (ap Some p, rw (← p) (q ∙ ap Some o))
+    go None q d = let z : ◌≡◌ {A = ℕ} 0 1 = cc in absurd (omega arith)
 
-pub turn_empty : (f : ℕ → Found) (a : Found) (i : ℕ) → turn_for f a ≡ Empty i → (a ≡ At i) × (f i ≡ Nothing)
-turn_empty f Nothing i e = let z : ◌≡◌ {A = ℕ} 0 1 = cc in absurd (omega arith)
-turn_empty f (At j) i e = go (f j) refl e
+pub turn_empty : (f : ℕ → Option ℕ) (a : Option ℕ) (i : ℕ) → turn_for f a ≡ Empty i → (a ≡ Some i) × (f i ≡ None)
+turn_empty f None i e = let z : ◌≡◌ {A = ℕ} 0 1 = cc in absurd (omega arith)
+turn_empty f (Some j) i e = go (f j) refl e
   where
-    go : (b : Found) → f j ≡ b → turn_of j b ≡ Empty i → (At j ≡ At i) × (f i ≡ Nothing)
-    go (At m) q d = let z : ◌≡◌ {A = ℕ} 0 1 = cc in absurd (omega arith)
-    go Nothing q d = let p : j ≡ i = cc in (ap At p, rw (← p) q)
+    go : (b : Option ℕ) → f j ≡ b → turn_of j b ≡ Empty i → (Some j ≡ Some i) × (f i ≡ None)
+    go (Some m) q d = let z : ◌≡◌ {A = ℕ} 0 1 = cc in absurd (omega arith)
+    go None q d = let p : j ≡ i = cc in (ap Some p, rw (← p) q)
 
-pub turn_idle : (f : ℕ → Found) (a : Found) → turn_for f a ≡ Idle → a ≡ Nothing
-turn_idle f Nothing e = refl
-turn_idle f (At j) e = go (f j) e
+pub turn_idle : (f : ℕ → Option ℕ) (a : Option ℕ) → turn_for f a ≡ Idle → a ≡ None
+turn_idle f None e = refl
+turn_idle f (Some j) e = go (f j) e
   where
-    go : (b : Found) → turn_of j b ≡ Idle → At j ≡ Nothing
-    go (At m) d = let z : ◌≡◌ {A = ℕ} 0 1 = cc in absurd (omega arith)
-    go Nothing d = let z : ◌≡◌ {A = ℕ} 0 1 = cc in absurd (omega arith)
+    go : (b : Option ℕ) → turn_of j b ≡ Idle → Some j ≡ None
+    go (Some m) d = let z : ◌≡◌ {A = ℕ} 0 1 = cc in absurd (omega arith)
+    go None d = let z : ◌≡◌ {A = ℕ} 0 1 = cc in absurd (omega arith)
 
-pub turn_last : (u : Turn) (k : ℕ) → (last_of u ≡ Job k) ↔ ((i : ℕ) × (u ≡ Ran i k))
+pub turn_last : (u : Turn) (k : ℕ) → (last_of u ≡ Some k) ↔ ((i : ℕ) × (u ≡ Ran i k))
 turn_last u k = (to u, λ p. ap last_of p.1)
   where
-    to : (u : Turn) → last_of u ≡ Job k → (i : ℕ) × (u ≡ Ran i k)
+    to : (u : Turn) → last_of u ≡ Some k → (i : ℕ) × (u ≡ Ran i k)
     to (Ran i j) e = let q : j ≡ k = cc in (i, ap (Ran i) q)
     to (Empty i) e = let z : ◌≡◌ {A = ℕ} 0 1 = cc in absurd (omega arith)
     to Idle e = let z : ◌≡◌ {A = ℕ} 0 1 = cc in absurd (omega arith)

@@ -1,9 +1,7 @@
 -- What the steps of a tick find. The ticks that are taken, each with what step 5 and step 2 found and
 -- with its answer: the bounds and the morning report count over them. And what is found, as plain
 -- numbers, so that it can be handed out of many ticks at once.
-use Rattle.std.specs.Prelude.{List, [], ◌∷◌, ◌++◌, ℕ, replicate}
-use Rattle.laws.specs.declared.Found.{Found}
-use Rattle.laws.specs.declared.Found.TheVariants.{At, Nothing}
+use Rattle.std.specs.Prelude.{List, [], ◌∷◌, ◌++◌, ℕ, replicate, None, Option, Some}
 use Rattle.laws.specs.Rows.{anew}
 use Rattle.table.specs.declared.Table.{Table}
 use Rattle.table.specs.Rows.{task_priority_at}
@@ -42,9 +40,9 @@ taken_ticks r (e ∷ es) = taken_by r e (event_of r e).answer ++ taken_ticks (ev
 
 -- "who has a waiting job at it": of server i the priority of its highest task with a waiting job, 0
 -- if it has none
-abbrev pub priority_found : Table → Found → ℕ
-priority_found t (At k) = task_priority_at t k
-priority_found t Nothing = 0
+abbrev pub priority_found : Table → Option ℕ → ℕ
+priority_found t (Some k) = task_priority_at t k
+priority_found t None = 0
 
 unfoldable pub top_priority : Table → State → ℕ → ℕ
 top_priority t s i = priority_found t (highest_task t s i)

@@ -1,15 +1,12 @@
 -- Many event lines at once, lent as plain numbers (Values.antt): each is taken or refused in turn,
 -- and what is told to them is left in a lent room. Whether the run is sound is decided once for all
 -- of them.
-use Rattle.std.specs.Prelude.{◌&&◌, List, [], ◌∷◌, ◌++◌, ℕ, ◌*◌, leb, length, drop}
+use Rattle.std.specs.Prelude.{◌&&◌, List, [], ◌∷◌, ◌++◌, ℕ, ◌*◌, leb, length, drop, Err, None, Ok, Option, Some}
 use Rattle.laws.specs.Choice.{unless◌say◌else◌}
 use Rattle.table.specs.declared.Refusal.{Refusal}
 use Rattle.table.specs.declared.Refusal.TheVariants.{RoomShort, Unsound}
 use Rattle.run.specs.declared.Run.{Run}
-use Rattle.events.specs.declared.EventLine.{EventLine}
-use Rattle.events.specs.declared.EventLine.TheVariants.{Of, Another}
 use Rattle.events.specs.declared.Told.{Told}
-use Rattle.events.specs.declared.Taking.TheVariants.{Taken, Refused}
 use Rattle.run.specs.declared.Many.{Many}
 use Rattle.run.specs.declared.Finding.{Finding}
 use Rattle.run.specs.Sound.{sound}
@@ -17,19 +14,20 @@ use Rattle.events.specs.Values.{lines_said, all_values}
 use Rattle.events.specs.Boxes.{told_in, after_line_in, told_all_in, after_lines_in}
 use Rattle.run.specs.Events.{event_of, the_box}
 use Rattle.run.specs.Found.{TakenTick, taken_by, all_found, all_told}
+use Rattle.events.specs.declared.Event.{Event}
 
 -- what is told to a line, and the run after it
-abbrev pub told_to : Run → EventLine → Told
+abbrev pub told_to : Run → Option Event → Told
 told_to r l = told_in the_box r l
 
-abbrev pub after_line : Run → EventLine → Run
+abbrev pub after_line : Run → Option Event → Run
 after_line r l = after_line_in the_box r l
 
 -- the same for some lines, one after the other
-abbrev pub told_to_all : Run → List EventLine → List Told
+abbrev pub told_to_all : Run → List (Option Event) → List Told
 told_to_all r ls = told_all_in the_box r ls
 
-abbrev pub after_lines : Run → List EventLine → Run
+abbrev pub after_lines : Run → List (Option Event) → Run
 after_lines r ls = after_lines_in the_box r ls
 
 -- what is handed back, and the lent room after it
@@ -39,13 +37,13 @@ pub record Lent : Type 0 where
 
 -- 12: "room as it was"; 13: "it, as it was"
 abbrev pub untaken : Refusal → Run → List ℕ → Lent
-untaken why r room = record { many = record { answer = Refused why; run = r }; room = room }
+untaken why r room = record { many = record { answer = Err why; run = r }; room = room }
 
 -- "A writer changes nothing beyond the text."
-abbrev pub taken : Run → List EventLine → List ℕ → Lent
+abbrev pub taken : Run → List (Option Event) → List ℕ → Lent
 taken r ls room =
     record {
-      many = record { answer = Taken; run = after_lines r ls };
+      many = record { answer = Ok tt; run = after_lines r ls };
       room = all_values (told_to_all r ls) ++ drop (9 * length ls) room;
     }
 
@@ -57,11 +55,11 @@ many_of r values room =
     else taken r (lines_said values) room
 
 -- The taken ticks among some lines, one after the other; another line is no event.
-abbrev pub ticks_at : Run → EventLine → List TakenTick
-ticks_at r (Of e) = taken_by r e (event_of r e).answer
-ticks_at r Another = []
+abbrev pub ticks_at : Run → Option Event → List TakenTick
+ticks_at r (Some e) = taken_by r e (event_of r e).answer
+ticks_at r None = []
 
-unfoldable pub ticks_among : Run → List EventLine → List TakenTick
+unfoldable pub ticks_among : Run → List (Option Event) → List TakenTick
 ticks_among r [] = []
 ticks_among r (l ∷ ls) = ticks_at r l ++ ticks_among (after_line r l) ls
 
@@ -74,13 +72,13 @@ pub record LentBoth : Type 0 where
 
 abbrev pub unfound : Refusal → Run → List ℕ → List ℕ → LentBoth
 unfound why r told found =
-    record { finding = record { answer = Refused why; run = r; ticks = 0 }; told = told; found = found }
+    record { finding = record { answer = Err why; run = r; ticks = 0 }; told = told; found = found }
 
-abbrev pub taken_finding : Run → List EventLine → List ℕ → List ℕ → LentBoth
+abbrev pub taken_finding : Run → List (Option Event) → List ℕ → List ℕ → LentBoth
 taken_finding r ls told found =
     let ms = ticks_among r ls in
     record {
-      finding = record { answer = Taken; run = after_lines r ls; ticks = length ms };
+      finding = record { answer = Ok tt; run = after_lines r ls; ticks = length ms };
       told = all_told ms ++ drop (9 * length ms) told;
       found = all_found r.table ms ++ drop (96 * length ms) found;
     }

@@ -1,5 +1,5 @@
 -- A fresh start and a release, with what is refused.
-use Rattle.std.specs.Prelude.{not, ◌&&◌, ℕ, ◌+◌, ltb}
+use Rattle.std.specs.Prelude.{not, ◌&&◌, ℕ, ◌+◌, ltb, Err, Ok}
 use Rattle.laws.specs.Choice.{unless◌say◌else◌}
 use Rattle.table.specs.declared.Table.{Table}
 use Rattle.table.specs.declared.Refusal.{Refusal}
@@ -10,7 +10,6 @@ use Rattle.queues.specs.Queues.{joined}
 use Rattle.run.specs.declared.State.{State}
 use Rattle.run.specs.declared.Run.{Run}
 use Rattle.events.specs.declared.Answer.TheVariants.{Released, No}
-use Rattle.events.specs.declared.Starting.TheVariants.{Started, Refused}
 use Rattle.run.specs.declared.Begun.{Begun}
 use Rattle.run.specs.declared.Answered.{Answered}
 use Rattle.run.specs.State.{queues_of, waiting_at, with_queues, with_counts, fresh}
@@ -28,8 +27,8 @@ fresh_run t = record { table = t; state = fresh }
 -- was, beside a fresh state.
 unfoldable pub start_of : Table → Begun
 start_of t =
-    unless table_keeps t say record { answer = Refused Unsound; run = fresh_run t }
-    else record { answer = Started; run = fresh_run t }
+    unless table_keeps t say record { answer = Err Unsound; run = fresh_run t }
+    else record { answer = Ok tt; run = fresh_run t }
 
 -- "A release adds one job at the back of its task's queue; releases are never merged."
 abbrev pub with_job : State → ℕ → State

@@ -1,11 +1,10 @@
 -- 01, Numbers for no: "A state is sound (else 13) if ..", clause by clause.
-use Rattle.std.specs.Prelude.{Bool, not, ◌&&◌, ◌||◌, List, [], ◌∷◌, ℕ, leb, eqb}
+use Rattle.std.specs.Prelude.{Bool, not, ◌&&◌, ◌||◌, List, [], ◌∷◌, ℕ, leb, eqb, Option}
 use Rattle.laws.specs.Choice.{every}
 use Rattle.laws.specs.Rows.{all_below}
 use Rattle.table.specs.declared.Table.{Table}
 use Rattle.table.specs.Rows.{server_at, task_at, period_at, limit_at, largest, is_low, is_d2}
 use Rattle.table.specs.Rules.{table_keeps}
-use Rattle.queues.specs.declared.Last.{Last}
 use Rattle.queues.specs.Queues.{is_last}
 use Rattle.queues.specs.Sound.{queue_sound, last_sound, counts_sound}
 use Rattle.run.specs.declared.State.{State}
@@ -32,7 +31,7 @@ sound_task t s k =
 
 -- "the last-run task, if any, has a waiting job with run count at least 1, and a tick has been
 -- taken"
-unfoldable pub sound_last : Table → State → Last → Bool
+unfoldable pub sound_last : Table → State → Option ℕ → Bool
 sound_last t s l = last_sound t.ntasks (queues_of s) s.ticks.0 l
 
 -- "the counts of taken ticks and accepted releases are within 10's bounds, the latter not below the

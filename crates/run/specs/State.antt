@@ -1,5 +1,5 @@
 -- A state's counts by row, a state with some of them changed, and a fresh one.
-use Rattle.std.specs.Prelude.{Bool, ◌&&◌, List, ℕ, leb, eqb, get_or, replicate, if◌then◌else◌}
+use Rattle.std.specs.Prelude.{Bool, ◌&&◌, List, ℕ, leb, eqb, get_or, replicate, if◌then◌else◌, None, Option}
 use Rattle.laws.specs.Rows.{any_below}
 use Rattle.units.specs.declared.Ticks.{Ticks}
 use Rattle.table.specs.declared.Mode.{Mode}
@@ -7,8 +7,6 @@ use Rattle.table.specs.declared.Mode.TheVariants.{N, D1, D2}
 use Rattle.table.specs.declared.Task.{Task}
 use Rattle.table.specs.declared.Table.{Table}
 use Rattle.table.specs.Rows.{task_at, phase_at, capacity_at}
-use Rattle.queues.specs.declared.Last.{Last}
-use Rattle.queues.specs.declared.Last.TheVariants.{NoJob}
 use Rattle.queues.specs.Queues.{Queues, waiting_in, runs_in, waits_in, no_jobs}
 use Rattle.run.specs.declared.State.{State}
 
@@ -105,7 +103,7 @@ with_queues s q =
       accepted = s.accepted;
     }
 
-abbrev pub with_last : State → Last → State
+abbrev pub with_last : State → Option ℕ → State
 with_last s l =
     record {
       mode = s.mode;
@@ -141,7 +139,7 @@ fresh =
       elapsed = replicate 32 0;
       waiting = no_jobs.waiting;
       runs = no_jobs.runs;
-      last = NoJob;
+      last = None;
       ticks = record { 0 = 0 };
       accepted = 0;
     }

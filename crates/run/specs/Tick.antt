@@ -1,7 +1,5 @@
 -- 01, What one tick does, step by step.
-use Rattle.std.specs.Prelude.{Bool, true, false, not, ◌&&◌, ◌||◌, ℕ, zero, suc, ◌+◌, ltb, eqb, if◌then◌else◌}
-use Rattle.laws.specs.declared.Found.{Found}
-use Rattle.laws.specs.declared.Found.TheVariants.{At, Nothing}
+use Rattle.std.specs.Prelude.{Bool, true, false, not, ◌&&◌, ◌||◌, ℕ, zero, suc, ◌+◌, ltb, eqb, if◌then◌else◌, None, Option, Some}
 use Rattle.laws.specs.Choice.{unless◌say◌else◌}
 use Rattle.laws.specs.Rows.{sum_below, highest, anew}
 use Rattle.units.specs.declared.Ticks.{Ticks}
@@ -13,8 +11,6 @@ use Rattle.table.specs.declared.Task.{Task}
 use Rattle.table.specs.declared.Table.{Table}
 use Rattle.table.specs.declared.Refusal.TheVariants.{NoJobRan, CountSpent, Unsound}
 use Rattle.table.specs.Rows.{server_at, task_at, in_mode, period_at, priority_at, task_priority_at, is_timed, is_low, is_d2}
-use Rattle.queues.specs.declared.Last.{Last}
-use Rattle.queues.specs.declared.Last.TheVariants.{NoJob, Job}
 use Rattle.queues.specs.Queues.{front_gone, highest_waiting, turn_of, front_ran, last_of, ran_job}
 use Rattle.run.specs.declared.State.{State}
 use Rattle.run.specs.declared.Run.{Run}
@@ -89,10 +85,10 @@ judged s k j =
 
 -- "step 1 only if the last taken tick ran a job". There are three modes, so a job is judged at most
 -- three times.
-unfoldable pub step1 : Table → State → Bool → Last → Marked
-step1 t s mark NoJob = record { state = s; left = Nobody }
-step1 t s true (Job k) = finished s k
-step1 t s false (Job k) = judged s k (judge 3 (task_at t k) (runs_at s k) s.mode)
+unfoldable pub step1 : Table → State → Bool → Option ℕ → Marked
+step1 t s mark None = record { state = s; left = Nobody }
+step1 t s true (Some k) = finished s k
+step1 t s false (Some k) = judged s k (judge 3 (task_at t k) (runs_at s k) s.mode)
 
 -- Step 2. "On entering D2 every waiting LO job is discarded and counted."
 abbrev pub enters : Mode → Mode → Bool
@@ -152,19 +148,19 @@ settle t s mark =
 unfoldable pub able : Table → State → ℕ → Bool
 able t s i = ltb (used_at s i) (in_force t s i) && (is_timed (server_at t i).kind || waits t s i)
 
-unfoldable pub highest_able : Table → State → Found
+unfoldable pub highest_able : Table → State → Option ℕ
 highest_able t s = highest t.nservers (able t s) (priority_at t)
 
 -- Step 6. "Its highest task with a waiting job runs the front job"
-unfoldable pub highest_task : Table → State → ℕ → Found
+unfoldable pub highest_task : Table → State → ℕ → Option ℕ
 highest_task t s i =
     highest_waiting t.ntasks (queues_of s) (λ k. eqb (owner s.mode (task_at t k)) i) (task_priority_at t)
 
 -- "Each taken tick says one of three things: `run` with server and task, `empty` with the timed
 -- server charged, or `idle`."
-abbrev pub turn_for : (ℕ → Found) → Found → Turn
-turn_for task (At i) = turn_of i (task i)
-turn_for task Nothing = Idle
+abbrev pub turn_for : (ℕ → Option ℕ) → Option ℕ → Turn
+turn_for task (Some i) = turn_of i (task i)
+turn_for task None = Idle
 
 unfoldable pub choose : Table → State → Turn
 choose t s = turn_for (highest_task t s) (highest_able t s)

@@ -3,9 +3,8 @@
 
 #![tactic(auto)]
 
-use events::{Answer, Starting, Taking};
-use queues::Last;
-use table::{Mode, SERVERS, TASKS, Table};
+use events::Answer;
+use table::{Mode, Refusal, SERVERS, TASKS, Table};
 use units::Ticks;
 
 // The counts of a run, row by row. A task's queue is the number of its waiting jobs and the run
@@ -17,7 +16,7 @@ pub struct State {
     pub elapsed: [u32; SERVERS],
     pub waiting: [u8; TASKS],
     pub runs: [u32; TASKS],
-    pub last: Last,
+    pub last: Option<usize>,
     pub ticks: Ticks,
     pub accepted: u32,
 }
@@ -36,12 +35,14 @@ pub struct Judged {
     pub cut: bool,
 }
 
+// What is handed back for a start.
 #[derive(Clone, Copy)]
 pub struct Begun {
-    pub answer: Starting,
+    pub answer: Result<(), Refusal>,
     pub run: Run,
 }
 
+// What is handed back for an event.
 #[derive(Clone, Copy)]
 pub struct Answered {
     pub answer: Answer,
@@ -52,17 +53,18 @@ pub struct Answered {
 // task. (specs/Found.antt.)
 pub const FOUND_VALUES: usize = SERVERS + TASKS;
 
-// What is handed back for many event lines: the run after them.
+// What is handed back for many event lines: that they were taken, or why none of them was, and the
+// run after them.
 #[derive(Clone, Copy)]
 pub struct Many {
-    pub answer: Taking,
+    pub answer: Result<(), Refusal>,
     pub run: Run,
 }
 
 // The same, and how many ticks were taken among the lines.
 #[derive(Clone, Copy)]
 pub struct Finding {
-    pub answer: Taking,
+    pub answer: Result<(), Refusal>,
     pub run: Run,
     pub ticks: usize,
 }

@@ -19,8 +19,7 @@ ghost use Rattle.run.specs.Release.{start_of, release_of};
 ghost use Rattle.run.specs.Tick.{tick_of};
 ghost use Rattle.run.specs.Events.{event_of};
 
-use events::{Answer, Event, Starting};
-use queues::Last;
+use events::{Answer, Event};
 use run::{Answered, Begun, FOUND_VALUES, Run, State};
 use table::{Mode, Refusal, SERVERS, TASKS, Table};
 use units::Ticks;
@@ -35,7 +34,7 @@ fn fresh_state() -> State
         elapsed: [0u32; SERVERS],
         waiting: [0u8; TASKS],
         runs: [0u32; TASKS],
-        last: Last::NoJob,
+        last: None,
         ticks: Ticks(0),
         accepted: 0,
     }
@@ -49,12 +48,12 @@ pub fn start(t: Table) -> Begun
     let run = Run { table: t, state };
     if table::table_keeps(t) {
         return Begun {
-            answer: Starting::Started,
+            answer: Ok(()),
             run,
         };
     }
     Begun {
-        answer: Starting::Refused(Refusal::Unsound),
+        answer: Err(Refusal::Unsound),
         run,
     }
 }

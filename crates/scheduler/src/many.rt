@@ -14,7 +14,7 @@ ghost use Rattle.scheduler.specs.Inner.Many.{LineTaken, LinesTaken, is_tick, Put
 use crate::parts::Head;
 use crate::sheets::{SERVER_CELLS, TASK_CELLS};
 use crate::{event, parts, sheets};
-use events::{EventLine, LINE_VALUES, TOLD_VALUES, Taking, Told};
+use events::{Event, LINE_VALUES, TOLD_VALUES, Told};
 use run::{FOUND_VALUES, Finding, Many, Run};
 use table::{Refusal, SERVERS, TASKS};
 
@@ -53,7 +53,7 @@ fn answer_line(
     waiting: &mut [u8; TASKS],
     runs: &mut [u32; TASKS],
     found: &mut [u8; FOUND_VALUES],
-    line: EventLine,
+    line: Option<Event>,
 ) -> Reply
     requires { SomeRun h servers.now tasks.now used.old elapsed.old waiting.old runs.old
         × (found.old ≡ none_found) }
@@ -62,14 +62,14 @@ fn answer_line(
         used.new elapsed.new waiting.new runs.new found.new result }
 {
     match line {
-        EventLine::Of(e) => {
+        Some(e) => {
             let d = event::event_in(h, servers, tasks, used, elapsed, waiting, runs, found, e);
             let answer = d.answer;
             let head = d.head;
             let told = events::told_of(answer);
             Reply { told, head }
         }
-        EventLine::Another => {
+        None => {
             let number = table::number_of(Refusal::Malformed);
             Reply {
                 told: Told::No(number),
@@ -191,13 +191,13 @@ pub fn answer_many(r: Run, lines: &[u64], told: &mut [u64]) -> Many
     let s = r.state;
     if !soundness::run_sound(t, s) {
         return Many {
-            answer: Taking::Refused(Refusal::Unsound),
+            answer: Err(Refusal::Unsound),
             run: r,
         };
     }
     if told.len() / TOLD_VALUES < lines.len() / LINE_VALUES {
         return Many {
-            answer: Taking::Refused(Refusal::RoomShort),
+            answer: Err(Refusal::RoomShort),
             run: r,
         };
     }
@@ -223,7 +223,7 @@ pub fn answer_many(r: Run, lines: &[u64], told: &mut [u64]) -> Many
     );
     let run = parts::run_of(t, head, used, elapsed, waiting, runs);
     Many {
-        answer: Taking::Taken,
+        answer: Ok(()),
         run,
     }
 }
@@ -239,21 +239,21 @@ pub fn find_many(r: Run, lines: &[u64], told: &mut [u64], found: &mut [u8]) -> F
     let s = r.state;
     if !soundness::run_sound(t, s) {
         return Finding {
-            answer: Taking::Refused(Refusal::Unsound),
+            answer: Err(Refusal::Unsound),
             run: r,
             ticks: 0,
         };
     }
     if told.len() / TOLD_VALUES < lines.len() / LINE_VALUES {
         return Finding {
-            answer: Taking::Refused(Refusal::RoomShort),
+            answer: Err(Refusal::RoomShort),
             run: r,
             ticks: 0,
         };
     }
     if found.len() / FOUND_VALUES < lines.len() / LINE_VALUES {
         return Finding {
-            answer: Taking::Refused(Refusal::RoomShort),
+            answer: Err(Refusal::RoomShort),
             run: r,
             ticks: 0,
         };
@@ -282,7 +282,7 @@ pub fn find_many(r: Run, lines: &[u64], told: &mut [u64], found: &mut [u8]) -> F
     let head = d.head;
     let run = parts::run_of(t, head, used, elapsed, waiting, runs);
     Finding {
-        answer: Taking::Taken,
+        answer: Ok(()),
         run,
         ticks: d.ticks,
     }

@@ -5,7 +5,6 @@ ghost use Rattle.std.specs.Prelude.{◌≡◌};
 ghost use Rattle.scheduler.specs.Inner.Parts.{last_task, last_in, head_of, run_of};
 
 use events::Answer;
-use queues::Last;
 use run::{Run, State};
 use table::{Mode, SERVERS, TASKS, Table};
 use units::Ticks;
@@ -31,22 +30,22 @@ pub struct Step {
     pub head: Head,
 }
 
-fn last_task(last: Last) -> usize
+fn last_task(last: Option<usize>) -> usize
     ensures { result ≡ last_task last }
 {
     match last {
-        Last::NoJob => 0,
-        Last::Job(k) => k,
+        None => 0,
+        Some(k) => k,
     }
 }
 
-fn last_in(ran: bool, task: usize) -> Last
+fn last_in(ran: bool, task: usize) -> Option<usize>
     ensures { result ≡ last_in ran task }
 {
     if ran {
-        return Last::Job(task);
+        return Some(task);
     }
-    Last::NoJob
+    None
 }
 
 pub(crate) fn head_of(t: Table, s: State) -> Head

@@ -1,7 +1,6 @@
 -- A buffer of an event file served by a run (crate lines, specs/Serving.antt).
-use Rattle.std.specs.Prelude.{List, ℕ}
+use Rattle.std.specs.Prelude.{List, ℕ, Err}
 use Rattle.table.specs.declared.Refusal.{Refusal}
-use Rattle.events.specs.declared.Taking.TheVariants.{Refused}
 use Rattle.run.specs.declared.Run.{Run}
 use Rattle.run.specs.Events.{the_box}
 use Rattle.lines.specs.declared.Held.{Held}
@@ -15,7 +14,7 @@ pub record Buffered : Type 0 where
 
 -- nothing of a buffer is taken: what was handed in comes back
 abbrev pub untaken : Refusal → Run → Held → Served
-untaken why r h = record { answer = Refused why; run = r; held = h; eaten = 0; put = 0 }
+untaken why r h = record { answer = Err why; run = r; held = h; eaten = 0; put = 0 }
 
 abbrev pub service_of : Buffered → Service Run
 service_of d =

@@ -12,7 +12,7 @@ ghost use Rattle.lines.specs.Inner.{Fit, answered_cut};
 ghost use Rattle.serving.specs.Buffer.{untaken, service_of, serve_of};
 
 use cutter::cut_lines;
-use events::{LINE_VALUES, TOLD_VALUES, Taking};
+use events::{LINE_VALUES, TOLD_VALUES};
 use lines::{BATCH, Cut, Held, lines_at_once};
 use printer::print_lines;
 use run::Run;
@@ -24,7 +24,7 @@ use table::Refusal;
 // (specs/Buffer.antt.)
 #[derive(Clone, Copy)]
 pub struct Served {
-    pub answer: Taking,
+    pub answer: Result<(), Refusal>,
     pub run: Run,
     pub held: Held,
     pub eaten: usize,
@@ -36,7 +36,7 @@ fn refused(why: Refusal, r: Run, h: Held) -> Served
     ensures { result ≡ untaken why r h }
 {
     Served {
-        answer: Taking::Refused(why),
+        answer: Err(why),
         run: r,
         held: h,
         eaten: 0,
@@ -53,11 +53,11 @@ fn answer_lines(r: Run, h: Held, c: Cut, lines: &[u64], room: &mut [u8]) -> Serv
     let mut told = [0u64; TOLD_VALUES * BATCH];
     let m = answer_many(r, lines, &mut told);
     let sound = m.answer;
-    let Taking::Taken = sound else {
+    let Ok(()) = sound else {
         return refused(Refusal::Unsound, r, h);
     };
     let cut = c.answer;
-    let Taking::Taken = cut else {
+    let Ok(()) = cut else {
         return refused(Refusal::RoomShort, r, h);
     };
     let n = lines.len() / LINE_VALUES;
@@ -65,7 +65,7 @@ fn answer_lines(r: Run, h: Held, c: Cut, lines: &[u64], room: &mut [u8]) -> Serv
     let run = m.run;
     let held = c.held;
     Served {
-        answer: Taking::Taken,
+        answer: Ok(()),
         run,
         held,
         eaten: c.eaten,

@@ -3,11 +3,9 @@
 use crate::block::{Block, Operation};
 use crate::part;
 use crate::said::{LONGEST_SAID, put_line, put_queues, say_line, say_no, shown};
-use events::{Answer, Starting, TickAnswer, Told};
-use queues::Last;
+use events::{Answer, TickAnswer, Told};
 use run::{Answered, Begun, Run, State};
-use table::{Mode, SERVERS, Table};
-use text::Writing;
+use table::{Mode, Refusal, SERVERS, Table};
 use verdict::{Fits, Verdict};
 
 // What a room holds before it is lent.
@@ -44,7 +42,7 @@ fn is_kept(room: &[u8], from: usize) -> bool {
 }
 
 // The writer, lent as many bytes of the room as are asked for. The longest text is far shorter than the room.
-fn write_in(t: Table, size: usize, room: &mut [u8]) -> Writing {
+fn write_in(t: Table, size: usize, room: &mut [u8]) -> Result<usize, Refusal> {
     let lent = part::first(size, room);
     writer::write_table(t, &mut room[..lent])
 }
@@ -53,7 +51,7 @@ fn write_in(t: Table, size: usize, room: &mut [u8]) -> Writing {
 fn say_written<R: Print + Eprint>(rt: &R, t: Table, size: usize) -> bool {
     let mut room = [BEFORE; LONGEST_SAID];
     match write_in(t, size, &mut room) {
-        Writing::Written(many) => {
+        Ok(many) => {
             if !is_kept(&room, many) {
                 return say_line(rt, b"changed beyond the text", &[]);
             }
@@ -62,7 +60,7 @@ fn say_written<R: Print + Eprint>(rt: &R, t: Table, size: usize) -> bool {
             }
             files::write_first(rt, &room, many)
         }
-        Writing::Refused(why) => {
+        Err(why) => {
             if !is_kept(&room, 0) {
                 return say_line(rt, b"changed though refused", &[]);
             }
@@ -78,8 +76,8 @@ fn put_head(s: State, room: &mut [u8], at: usize) -> usize {
     let ticks = s.ticks.0 as u64;
     let accepted = s.accepted as u64;
     match last {
-        Last::NoJob => put_line(b"state", &[mode, ticks, accepted, 0, 0], room, at),
-        Last::Job(k) => put_line(b"state", &[mode, ticks, accepted, 1, k as u64], room, at),
+        None => put_line(b"state", &[mode, ticks, accepted, 0, 0], room, at),
+        Some(k) => put_line(b"state", &[mode, ticks, accepted, 1, k as u64], room, at),
     }
 }
 
@@ -120,8 +118,8 @@ fn say_begun<R: Print + Eprint>(rt: &R, b: Begun) -> bool {
     let answer = b.answer;
     let r = b.run;
     match answer {
-        Starting::Started => say_state(rt, b"fresh", &[], r),
-        Starting::Refused(why) => say_no(rt, why),
+        Ok(()) => say_state(rt, b"fresh", &[], r),
+        Err(why) => say_no(rt, why),
     }
 }
 

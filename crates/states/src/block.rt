@@ -3,7 +3,6 @@
 
 use crate::line::{BYTE, Fields, LARGE, WIDE, is_line};
 use framerun::{FrameRun, FrameState};
-use queues::Last;
 use run::State;
 use table::{ByMode, Kind, Level, Mode, SERVERS, Server, TASKS, Table, Task};
 use units::{Micros, Ticks};
@@ -59,10 +58,10 @@ fn level_of(v: u64) -> Level {
     }
 }
 
-pub(crate) fn last_of(any: u64, row: u64) -> Last {
+pub(crate) fn last_of(any: u64, row: u64) -> Option<usize> {
     match any {
-        0 => Last::NoJob,
-        _ => Last::Job(row as usize),
+        0 => None,
+        _ => Some(row as usize),
     }
 }
 
@@ -142,7 +141,7 @@ fn no_state() -> State {
         elapsed: [0; SERVERS],
         waiting: [0; TASKS],
         runs: [0; TASKS],
-        last: Last::NoJob,
+        last: None,
         ticks: Ticks(0),
         accepted: 0,
     }
@@ -155,7 +154,7 @@ fn no_frame() -> FrameRun {
         state: FrameState {
             waiting: [0; TASKS],
             runs: [0; TASKS],
-            last: Last::NoJob,
+            last: None,
             ticks: Ticks(0),
             accepted: 0,
         },

@@ -2,17 +2,16 @@
 
 use crate::block::Operation;
 use crate::said::{LONGEST_SAID, put_line, put_queues, say_no};
-use events::{Answer, Starting, TickAnswer, Told};
+use events::{Answer, TickAnswer, Told};
 use framerun::{FrameAnswered, FrameBegun, FrameRun, FrameState};
-use queues::Last;
 
 fn put_box(s: FrameState, room: &mut [u8], at: usize) -> usize {
     let last = s.last;
     let ticks = s.ticks.0 as u64;
     let accepted = s.accepted as u64;
     match last {
-        Last::NoJob => put_line(b"box", &[ticks, accepted, 0, 0], room, at),
-        Last::Job(k) => put_line(b"box", &[ticks, accepted, 1, k as u64], room, at),
+        None => put_line(b"box", &[ticks, accepted, 0, 0], room, at),
+        Some(k) => put_line(b"box", &[ticks, accepted, 1, k as u64], room, at),
     }
 }
 
@@ -38,8 +37,8 @@ fn say_begun<R: Print + Eprint>(rt: &R, b: FrameBegun) -> bool {
     let answer = b.answer;
     let r = b.run;
     match answer {
-        Starting::Started => say_state(rt, b"fresh", &[], r),
-        Starting::Refused(why) => say_no(rt, why),
+        Ok(()) => say_state(rt, b"fresh", &[], r),
+        Err(why) => say_no(rt, why),
     }
 }
 

@@ -2,7 +2,7 @@
 
 ghost use Rattle.std.specs.Prelude.{◌≤◌, length};
 
-use decimal::{Number, TAB};
+use decimal::TAB;
 
 // The greatest number that a field of the format may hold: 32 bits, or 8 where the table and the
 // state of a table block hold no more.
@@ -26,8 +26,8 @@ pub struct Fields {
 
 fn value(field: &[u8]) -> u64 {
     match decimal::read_number(field) {
-        Number::Value(v) => v,
-        Number::Bad => NO_NUMBER,
+        Some(v) => v,
+        None => NO_NUMBER,
     }
 }
 

@@ -1,5 +1,6 @@
 -- The first pair of equal priorities: what it is, that nothing else is it, and that there is none exactly where all differ.
 -- Each of the two searches has one answer, and nested loops over the rows find it. Assumes nothing.
+use Rattle.std.proofs.Common.{None, Option, Some}
 use mathlib.Core.Path.{◌≡◌, refl, sym, ap, ◌∙◌}
 use mathlib.Core.Bool.{true, not}
 use mathlib.Core.Logic.{inl, inr}
@@ -11,15 +12,12 @@ use lib.ListN.{length, get_or, take, length-take}
 use lib.Seq.{get_or-take}
 use borrow.Author.Count.{below_more}
 use borrow.Author.Tests.{eqb-true, eqb-false, eq-eqb, ne_eqb}
-use Rattle.laws.specs.declared.Found.TheVariants.{At, Nothing}
 use Rattle.laws.specs.Search.{first_of}
 use Rattle.laws.specs.Rows.{all_below}
 use Rattle.laws.proofs.Choice.{clash, is_false, le_or_lt}
 use Rattle.laws.proofs.Search.{hit, miss, is_least, found_passes, found_first, none_passes}
 use Rattle.laws.proofs.Search.{First, first, nowhere, first_at, first_none, first_is}
 use Rattle.laws.proofs.Rows.{all_at, all_build}
-use Rattle.table.specs.declared.Pair.{Pair}
-use Rattle.table.specs.declared.Pair.TheVariants.{Equal, Differ}
 use Rattle.table.specs.Pairs.{later_equal, first_pair, is_differ}
 use Rattle.table.specs.Rules.{differ}
 
@@ -35,16 +33,16 @@ pub record IsFirst (n : ℕ) (p : ℕ → ℕ) (i j : ℕ) : Type 0 where
   pub rows : (a b : ℕ) → a < i → a < b → b < n → p a ≡ p b → ⊥
   pub row : (b : ℕ) → i < b → b < j → p i ≡ p b → ⊥
 
-abbrev pub Paired : ℕ → (ℕ → ℕ) → Pair → Type 0
-Paired n p (Equal i j) = IsFirst n p i j
-Paired n p Differ = AllDiffer n p
+abbrev pub Paired : ℕ → (ℕ → ℕ) → Option (ℕ × ℕ) → Type 0
+Paired n p (Some (i, j)) = IsFirst n p i j
+Paired n p None = AllDiffer n p
 
-no_later : (n : ℕ) (p : ℕ → ℕ) (i : ℕ) → ((j : ℕ) → i < j → j < n → p i ≡ p j → ⊥) → later_equal n p i ≡ Nothing
+no_later : (n : ℕ) (p : ℕ → ℕ) (i : ℕ) → ((j : ℕ) → i < j → j < n → p i ≡ p j → ⊥) → later_equal n p i ≡ None
 unfolding later_equal
 no_later n p i h =
-    sym (is_least (λ j. eqb (p i) (p j)) (suc i) (n - suc i) Nothing (miss (λ y a b. ne_eqb (p i) (p y) (h y (omega arith) (omega arith)))))
+    sym (is_least (λ j. eqb (p i) (p j)) (suc i) (n - suc i) None (miss (λ y a b. ne_eqb (p i) (p y) (h y (omega arith) (omega arith)))))
 
-a_later : (n : ℕ) (p : ℕ → ℕ) (i j : ℕ) → IsFirst n p i j → later_equal n p i ≡ At j
+a_later : (n : ℕ) (p : ℕ → ℕ) (i j : ℕ) → IsFirst n p i j → later_equal n p i ≡ Some j
 unfolding later_equal
 a_later n p i j f =
     sym
@@ -52,7 +50,7 @@ a_later n p i j f =
     (λ k. eqb (p i) (p k))
     (suc i)
     (n - suc i)
-    (At j)
+    (Some j)
     (hit
     j
     (omega (arith, f.ordered))
@@ -60,40 +58,40 @@ a_later n p i j f =
     (eq-eqb (p i) (p j) f.equal)
     (λ y a b. ne_eqb (p i) (p y) (f.row y (omega arith) b))))
 
-later_found : (n : ℕ) (p : ℕ → ℕ) (i j : ℕ) → later_equal n p i ≡ At j → (i < j) × (j < n) × (p i ≡ p j)
+later_found : (n : ℕ) (p : ℕ → ℕ) (i j : ℕ) → later_equal n p i ≡ Some j → (i < j) × (j < n) × (p i ≡ p j)
 unfolding later_equal
 later_found n p i j e =
     let f = found_passes (λ k. eqb (p i) (p k)) (suc i) (n - suc i) j e in
     (omega (arith, f.1), omega (arith, f.1, f.2), eqb-true (p i) (p j) f.0)
 
-later_first : (n : ℕ) (p : ℕ → ℕ) (i j : ℕ) → later_equal n p i ≡ At j → (b : ℕ) → i < b → b < j → p i ≡ p b → ⊥
+later_first : (n : ℕ) (p : ℕ → ℕ) (i j : ℕ) → later_equal n p i ≡ Some j → (b : ℕ) → i < b → b < j → p i ≡ p b → ⊥
 unfolding later_equal
 later_first n p i j e b h k =
     eqb-false (p i) (p b) (found_first (λ m. eqb (p i) (p m)) (suc i) (n - suc i) j e b (omega arith) k)
 
-later_none : (n : ℕ) (p : ℕ → ℕ) (i : ℕ) → later_equal n p i ≡ Nothing → (j : ℕ) → i < j → j < n → p i ≡ p j → ⊥
+later_none : (n : ℕ) (p : ℕ → ℕ) (i : ℕ) → later_equal n p i ≡ None → (j : ℕ) → i < j → j < n → p i ≡ p j → ⊥
 unfolding later_equal
 later_none n p i e j h k =
     eqb-false (p i) (p j) (none_passes (λ m. eqb (p i) (p m)) (suc i) (n - suc i) e j (omega arith) (omega arith))
 
 -- what is a first pair, or none where all differ, is what the definition says
-pub is_pair : (n : ℕ) (p : ℕ → ℕ) (a : Pair) → Paired n p a → a ≡ first_pair n p
+pub is_pair : (n : ℕ) (p : ℕ → ℕ) (a : Option (ℕ × ℕ)) → Paired n p a → a ≡ first_pair n p
 unfolding first_pair
-is_pair n p (Equal i j) f =
-    first_at Equal Differ (later_equal n p) n i j
+is_pair n p (Some (i, j)) f =
+    first_at (λ i j. Some (i, j)) None (later_equal n p) n i j
     (record {
       below = omega (arith, f.ordered, f.below);
       found = a_later n p i j f;
       none_before = λ k h. no_later n p k (λ b l u. f.rows k b h l u);
     })
-is_pair n p Differ f = first_none Equal Differ (later_equal n p) n (λ k h. no_later n p k (f k))
+is_pair n p None f = first_none (λ i j. Some (i, j)) None (later_equal n p) n (λ k h. no_later n p k (f k))
 
 -- and what the definition says is one
 pub pair_is : (n : ℕ) (p : ℕ → ℕ) → Paired n p (first_pair n p)
 unfolding first_pair
-pair_is n p = go (first_of Equal Differ (later_equal n p) n) (first_is Equal Differ (later_equal n p) n)
+pair_is n p = go (first_of (λ i j. Some (i, j)) None (later_equal n p) n) (first_is (λ i j. Some (i, j)) None (later_equal n p) n)
   where
-    go : (a : Pair) → First Equal Differ (later_equal n p) n a → Paired n p a
+    go : (a : Option (ℕ × ℕ)) → First (λ i j. Some (i, j)) None (later_equal n p) n a → Paired n p a
     go a (first i j f) =
         let l = later_found n p i j f.found in
         record {
@@ -106,10 +104,10 @@ pair_is n p = go (first_of Equal Differ (later_equal n p) n) (first_is Equal Dif
     go a (nowhere f) = λ i j h k. later_none n p i (f i (omega arith)) j h k
 
 -- the pair that is found is equal, ordered and first
-pub pair_found : (n : ℕ) (p : ℕ → ℕ) (i j : ℕ) → first_pair n p ≡ Equal i j → IsFirst n p i j
+pub pair_found : (n : ℕ) (p : ℕ → ℕ) (i j : ℕ) → first_pair n p ≡ Some (i, j) → IsFirst n p i j
 pair_found n p i j e = rw e at (pair_is n p)
 
-pub pair_none : (n : ℕ) (p : ℕ → ℕ) → first_pair n p ≡ Differ → AllDiffer n p
+pub pair_none : (n : ℕ) (p : ℕ → ℕ) → first_pair n p ≡ None → AllDiffer n p
 pair_none n p e = rw e at (pair_is n p)
 
 -- the rule that priorities differ, by rows
@@ -136,19 +134,19 @@ differ_rows n p e i j h k d q =
     ]
 
 -- priorities differ exactly where no pair is found
-pub differ_pair : (n : ℕ) (p : ℕ → ℕ) → differ n p ≡ true → first_pair n p ≡ Differ
-differ_pair n p e = sym (is_pair n p Differ (differ_at n p e))
+pub differ_pair : (n : ℕ) (p : ℕ → ℕ) → differ n p ≡ true → first_pair n p ≡ None
+differ_pair n p e = sym (is_pair n p None (differ_at n p e))
 
-pub pair_differ : (n : ℕ) (p : ℕ → ℕ) → first_pair n p ≡ Differ → differ n p ≡ true
+pub pair_differ : (n : ℕ) (p : ℕ → ℕ) → first_pair n p ≡ None → differ n p ≡ true
 pair_differ n p e = differ_build n p (pair_none n p e)
 
 -- and so the pair that is found tells it
 pub differ_found : (n : ℕ) (p : ℕ → ℕ) → is_differ (first_pair n p) ≡ differ n p
 differ_found n p = go (first_pair n p) refl
   where
-    go : (a : Pair) → first_pair n p ≡ a → is_differ a ≡ differ n p
-    go Differ e = sym (pair_differ n p e)
-    go (Equal i j) e =
+    go : (a : Option (ℕ × ℕ)) → first_pair n p ≡ a → is_differ a ≡ differ n p
+    go None e = sym (pair_differ n p e)
+    go (Some (i, j)) e =
         let f = pair_found n p i j e in
         sym (is_false (differ n p) (λ d. differ_at n p d i j f.ordered f.below f.equal))
 
@@ -197,9 +195,9 @@ module _ {n : ℕ} {p : ℕ → ℕ} where
         row = λ b k l. s.row b l k;
       }
 
-paired_cong : (n : ℕ) (p q : ℕ → ℕ) → ((i : ℕ) → i < n → p i ≡ q i) → (a : Pair) → Paired n p a →
+paired_cong : (n : ℕ) (p q : ℕ → ℕ) → ((i : ℕ) → i < n → p i ≡ q i) → (a : Option (ℕ × ℕ)) → Paired n p a →
     Paired n q a
-paired_cong n p q e (Equal i j) w =
+paired_cong n p q e (Some (i, j)) w =
     let l = w.below in
     let k : i < n = omega (arith, w.ordered) in
     record {
@@ -209,11 +207,11 @@ paired_cong n p q e (Equal i j) w =
       rows = λ a b f g h u. w.rows a b f g h (e a (omega arith) ∙ u ∙ sym (e b h));
       row = λ b f g u. w.row b f g (e i k ∙ u ∙ sym (e b (omega arith)));
     }
-paired_cong n p q e Differ w = λ i j h k u. w i j h k (e i (omega arith) ∙ u ∙ sym (e j k))
+paired_cong n p q e None w = λ i j h k u. w i j h k (e i (omega arith) ∙ u ∙ sym (e j k))
 
 -- and its two ends, over the rows in use: m of the list, as many as n or the list allow
 module _ {A : Type 0} (f : A → ℕ) (d : A) (xs : List A) (n m : ℕ) (e : m ≡ min n (length xs)) where
-  in_use : (a : Pair) → Paired m (λ i. f (get_or xs i d)) a →
+  in_use : (a : Option (ℕ × ℕ)) → Paired m (λ i. f (get_or xs i d)) a →
       a ≡ first_pair (length (take n xs)) (λ i. f (get_or (take n xs) i d))
   in_use a w =
       rw (length-take n xs, ← e)
@@ -222,10 +220,10 @@ module _ {A : Type 0} (f : A → ℕ) (d : A) (xs : List A) (n m : ℕ) (e : m �
       (λ i h. ap f (sym (get_or-take n xs i d (omega arith)))) a w))
 
   pub none_in_use : {i j : ℕ} → Sought m (λ i. f (get_or xs i d)) i j → m ≤ i →
-      Differ ≡ first_pair (length (take n xs)) (λ i. f (get_or (take n xs) i d))
-  none_in_use s h = in_use Differ (sought_all s h)
+      None ≡ first_pair (length (take n xs)) (λ i. f (get_or (take n xs) i d))
+  none_in_use s h = in_use None (sought_all s h)
 
   pub first_in_use : {i j : ℕ} → Sought m (λ i. f (get_or xs i d)) i j → j < m →
       f (get_or xs i d) ≡ f (get_or xs j d) →
-      Equal i j ≡ first_pair (length (take n xs)) (λ i. f (get_or (take n xs) i d))
-  first_in_use {i} {j} s h q = in_use (Equal i j) (sought_first s h q)
+      Some (i, j) ≡ first_pair (length (take n xs)) (λ i. f (get_or (take n xs) i d))
+  first_in_use {i} {j} s h q = in_use (Some (i, j)) (sought_first s h q)

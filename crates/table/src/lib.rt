@@ -186,20 +186,10 @@ pub fn no_table() -> Table
     }
 }
 
-// Two rows of equal priority, the smaller first, or none.
-#[derive(Clone, Copy)]
-pub enum Pair {
-    Equal(usize, usize),
-    Differ,
-}
-
-fn is_differ(p: Pair) -> bool
+fn is_differ(p: Option<(usize, usize)>) -> bool
     ensures { result ≡ is_differ p }
 {
-    match p {
-        Pair::Equal(_, _) => false,
-        Pair::Differ => true,
-    }
+    p.is_none()
 }
 
 // How many rows of an array are in use: a count handed in may be past its end.
@@ -209,16 +199,17 @@ fn in_use(count: usize, most: usize) -> usize
     if count < most { count } else { most }
 }
 
-// "the first pair of server rows with equal priority", among the first count.
-pub fn equal_servers(ss: [Server; SERVERS], count: usize) -> Pair
+// "the first pair of server rows with equal priority", the smaller first, or none, among the first
+// count.
+pub fn equal_servers(ss: [Server; SERVERS], count: usize) -> Option<(usize, usize)>
     ensures { result ≡ equal_servers (take count ss) }
 {
     let n = in_use(count, SERVERS);
-    let mut answer = Pair::Differ;
+    let mut answer = None;
     'rows: for i in 0..n {
         for j in i + 1..n {
             if ss[i].priority == ss[j].priority {
-                answer = Pair::Equal(i, j);
+                answer = Some((i, j));
                 break 'rows;
             }
         }
@@ -227,15 +218,15 @@ pub fn equal_servers(ss: [Server; SERVERS], count: usize) -> Pair
 }
 
 // "then the same for tasks".
-pub fn equal_tasks(ks: [Task; TASKS], count: usize) -> Pair
+pub fn equal_tasks(ks: [Task; TASKS], count: usize) -> Option<(usize, usize)>
     ensures { result ≡ equal_tasks (take count ks) }
 {
     let n = in_use(count, TASKS);
-    let mut answer = Pair::Differ;
+    let mut answer = None;
     'rows: for k in 0..n {
         for l in k + 1..n {
             if ks[k].priority == ks[l].priority {
-                answer = Pair::Equal(k, l);
+                answer = Some((k, l));
                 break 'rows;
             }
         }

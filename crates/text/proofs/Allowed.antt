@@ -1,6 +1,7 @@
 -- Which texts the reader takes: exactly those whose lines, each closed, all keep the rules where
 -- they stand. Rows that keep the rules are the rows of such lines, and the rows' own lines are
 -- those with the task times rounded up and no phase 0. Assumes nothing.
+use Rattle.std.proofs.Common.{None}
 use mathlib.Core.Path.{◌≡◌, refl, sym, ap, ◌∙◌, subst}
 use mathlib.Core.Bool.{true, not}
 use mathlib.Core.List.{List, [], ◌∷◌, ◌++◌, map, append_assoc, append-nil}
@@ -21,7 +22,6 @@ use Rattle.table.specs.Rows.{Rows, no_rows, no_server, no_task}
 use Rattle.table.specs.Rules.{tick_keeps, priority_keeps, limit_keeps, server_keeps, task_fault, task_stands, differ, keeps}
 use Rattle.table.proofs.Rules.{rows_there, stands_keeps}
 use Rattle.table.specs.declared.Standing.TheVariants.{Kept, Broken}
-use Rattle.table.specs.declared.Pair.TheVariants.{Differ}
 use Rattle.table.specs.declared.Refusal.TheVariants.{Malformed as MalformedWhy, OutOfBounds, NotWhole}
 use Rattle.table.specs.Pairs.{equal_servers, equal_tasks}
 use Rattle.table.proofs.Pairs.{differ_pair, pair_differ}
@@ -307,8 +307,8 @@ some (x ∷ xs) e = omega arith
 
 record Ended (a : Rows) : Type 0 where
   task : 1 ≤ length a.tasks
-  servers : equal_servers a.servers ≡ Differ
-  tasks : equal_tasks a.tasks ≡ Differ
+  servers : equal_servers a.servers ≡ None
+  tasks : equal_tasks a.tasks ≡ None
 
 ended_taken : (n : ℕ) (a : Rows) → (ended n a).answer ≡ Taken → Ended a
 unfolding ended compared

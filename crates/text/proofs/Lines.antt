@@ -1,6 +1,6 @@
 -- A line and its text are inverse: what a written line says is what was written, and a line that
 -- has a form is written as it stands. Nothing here knows a bound or a row. Assumes nothing.
-use Rattle.std.specs.Prelude.{if◌then◌else◌}
+use Rattle.std.specs.Prelude.{if◌then◌else◌, None, Option, Some}
 use mathlib.Core.Path.{◌≡◌, refl, sym, ap, ap₂, ◌∙◌}
 use mathlib.Core.Bool.{Bool, true, false, ◌||◌}
 use mathlib.Core.List.{List, [], ◌∷◌, ◌++◌}
@@ -10,8 +10,6 @@ use native.Mathlib.Omega.{arith}
 use lib.Dec.{ltb}
 use lib.ListN.{length, get_or, take}
 use borrow.Author.Tests.{ltb-true, ltb-false}
-use Rattle.laws.specs.declared.Found.{Found}
-use Rattle.laws.specs.declared.Found.TheVariants.{At, Nothing}
 use Rattle.laws.specs.Choice.{every, within}
 use Rattle.laws.specs.Search.{least, first_failed}
 use Rattle.laws.proofs.Choice.{clash, if_ind, and_left, and_right, or_cases, within_low, within_high}
@@ -25,8 +23,6 @@ use Rattle.table.specs.declared.Kind.TheVariants.{Event, Timed}
 use Rattle.table.specs.declared.Level.{Level}
 use Rattle.table.specs.declared.Level.TheVariants.{LO, MI, HI}
 use Rattle.text.specs.declared.Times.{Times}
-use Rattle.text.specs.declared.LastField.{LastField}
-use Rattle.text.specs.declared.LastField.TheVariants.{Absent, Given}
 use Rattle.text.specs.declared.ServerLine.{ServerLine}
 use Rattle.text.specs.declared.Word.{Word}
 use Rattle.text.specs.declared.Word.TheVariants.{ATick, AServer, ATask, Unknown}
@@ -34,6 +30,7 @@ use Rattle.text.specs.declared.Line.{Line}
 use Rattle.text.specs.declared.Line.TheVariants.{OfTick, OfServer, OfTask, Malformed}
 use Rattle.text.specs.Words.{tick_word, server_word, task_word, event_word, timed_word, lo_word, mi_word, hi_word, is_kind, kind_of, kind_word, is_level, level_of, level_word}
 use Rattle.text.specs.Line.{Expected, a_number, a_kind, a_level, fits, Form, tick_form, server_form, task_form, field_tests, form_tests, micros_at, server_said, task_said, leading, word_of, said_unless, formed, line_by, line_of, read_line, times_fields, last_fields, fields_of, write_line}
+use Rattle.units.specs.declared.Micros.{Micros}
 
 -- A line that has a text: it has a form, and each number has at most 11 digits.
 abbrev pub Short : ℕ → Type 0
@@ -42,9 +39,9 @@ Short n = n < 100000000000
 abbrev pub ShortTimes : Times → Type 0
 ShortTimes x = Short x.n.0 × Short x.d1.0 × Short x.d2.0
 
-abbrev pub ShortLast : LastField → Type 0
-ShortLast Absent = Unit {0}
-ShortLast (Given u) = Short u.0
+abbrev pub ShortLast : Option Micros → Type 0
+ShortLast None = Unit {0}
+ShortLast (Some u) = Short u.0
 
 abbrev pub Writable : Line → Type 0
 Writable (OfTick t) = Short t.0
@@ -145,12 +142,12 @@ formed_ind : (P : Line → Type 0) (form : Form) (fs : List (List ℕ)) (said : 
     ((field : ℕ) → P (Malformed (word_of said) field)) → P (formed form fs said)
 formed_ind P form fs said f m = go (first_failed (form_tests form fs)) refl
   where
-    go : (x : Found) → first_failed (form_tests form fs) ≡ x → P (said_unless x said)
-    go (At field) e = m field
-    go Nothing e = f ((failed_none (form_tests form fs)).0 e)
+    go : (x : Option ℕ) → first_failed (form_tests form fs) ≡ x → P (said_unless x said)
+    go (Some field) e = m field
+    go None e = f ((failed_none (form_tests form fs)).0 e)
 
 -- what the fields of a server's line say, with its last field or without
-abbrev with_phase : ServerLine → LastField → ServerLine
+abbrev with_phase : ServerLine → Option Micros → ServerLine
 with_phase s p =
     record {
       partition = s.partition;
@@ -161,10 +158,10 @@ with_phase s p =
       phase = p;
     }
 
-server_of_fields : (s : ServerLine) (p : LastField) → Writable (OfServer (with_phase s p)) →
+server_of_fields : (s : ServerLine) (p : Option Micros) → Writable (OfServer (with_phase s p)) →
     line_of (fields_of (OfServer (with_phase s p))) ≡ OfServer (with_phase s p)
 unfolding line_of line_by fields_of server_form form_tests field_tests every same tick_word server_word task_word
-server_of_fields s Absent w =
+server_of_fields s None w =
     let fs = digits s.partition ∷ kind_word s.kind ∷ digits s.priority ∷ digits s.period.0 ∷ times_fields s.capacity in
     said_formed server_form fs (OfServer (server_said fs))
     (rw (
@@ -185,7 +182,7 @@ server_of_fields s Absent w =
       worth_digits s.capacity.d1.0,
       worth_digits s.capacity.d2.0,
     )
-server_of_fields s (Given u) w =
+server_of_fields s (Some u) w =
     let fs =
     digits s.partition
     ∷ kind_word s.kind
@@ -246,10 +243,10 @@ line_of_fields (Malformed word field) w = absurd w
 
 -- each field is at least `0` byte by byte, so a line's text has no line feed, and tabs only between
 -- fields
-last_high : (p : LastField) → all_high (last_fields p) ≡ true
+last_high : (p : Option Micros) → all_high (last_fields p) ≡ true
 unfolding all_high
-last_high Absent = refl
-last_high (Given u) = rw (high_digits u.0)
+last_high None = refl
+last_high (Some u) = rw (high_digits u.0)
 
 fields_high : (l : Line) → all_high (fields_of l) ≡ true
 unfolding fields_of all_high
@@ -421,9 +418,9 @@ level_length HI = omega arith
 times_length : (x : Times) → ShortTimes x → AllUpTo 11 (times_fields x)
 times_length x w = (short_digits x.n.0 w.0, (short_digits x.d1.0 w.1, (short_digits x.d2.0 w.2, tt)))
 
-last_length : (x : Times) (p : LastField) → ShortTimes x → ShortLast p → AllUpTo 11 (times_fields x ++ last_fields p)
-last_length x Absent w v = times_length x w
-last_length x (Given u) w v = (
+last_length : (x : Times) (p : Option Micros) → ShortTimes x → ShortLast p → AllUpTo 11 (times_fields x ++ last_fields p)
+last_length x None w v = times_length x w
+last_length x (Some u) w v = (
   short_digits x.n.0 w.0,
   (short_digits x.d1.0 w.1, (short_digits x.d2.0 w.2, (short_digits u.0 v, tt))),
 )
@@ -459,9 +456,9 @@ fields_length (OfTask k) w = (
 )
 fields_length (Malformed word field) w = absurd w
 
-last_many : (p : LastField) → length (last_fields p) ≤ 1
-last_many Absent = omega arith
-last_many (Given u) = omega arith
+last_many : (p : Option Micros) → length (last_fields p) ≤ 1
+last_many None = omega arith
+last_many (Some u) = omega arith
 
 fields_many : (l : Line) → length (fields_of l) ≤ 9
 unfolding fields_of

@@ -1,6 +1,7 @@
 -- Lines that keep the rules where they stand, and the rows that they make: a line is taken exactly
 -- if its row keeps the rules of a table, so rows that keep them come of lines that do, and the
 -- other way round. Nothing here knows a byte. Assumes nothing.
+use Rattle.std.proofs.Common.{None, Option, Some}
 use mathlib.Core.Path.{◌≡◌, refl, ap}
 use mathlib.Core.Bool.{Bool, true, false}
 use mathlib.Core.List.{List, [], ◌∷◌, ◌++◌, append_assoc, append-nil, map-append}
@@ -12,8 +13,6 @@ use lib.Dec.{leb, ltb}
 use lib.ListN.{length, get_or, length-append, get_or-append}
 use lib.Seq.{get_or-append_seam}
 use borrow.Author.Tests.{eqb-true, leb-true, ltb-true, le-leb, lt-ltb}
-use Rattle.laws.specs.declared.Found.{Found}
-use Rattle.laws.specs.declared.Found.TheVariants.{At, Nothing}
 use Rattle.laws.specs.Choice.{unless◌say◌else◌, every, within}
 use Rattle.laws.specs.Search.{first_failed}
 use Rattle.laws.proofs.Choice.{clash, and_right, every_at, within_low, within_high, is_within, le_or_lt}
@@ -27,8 +26,6 @@ use Rattle.table.specs.declared.Refusal.TheVariants.{Malformed as MalformedWhy, 
 use Rattle.table.specs.Rows.{Rows, no_rows, no_server, no_task}
 use Rattle.table.specs.Rules.{server_keeps, task_keeps, task_stands}
 use Rattle.table.proofs.Rules.{rows_there, stands}
-use Rattle.text.specs.declared.LastField.{LastField}
-use Rattle.text.specs.declared.LastField.TheVariants.{Absent, Given}
 use Rattle.text.specs.declared.ServerLine.{ServerLine}
 use Rattle.text.specs.declared.TaskLine.{TaskLine}
 use Rattle.text.specs.declared.Word.{Word}
@@ -49,13 +46,13 @@ pub unless_kept : (b : Bool) (why : Refusal) (field : ℕ) (r : Standing) → (u
 unless_kept true why field r e = (refl, e)
 unless_kept false why field r e = let c : ◌≡◌ {A = ℕ} 0 1 = cc in absurd (omega arith)
 
-pub tell_kept : (x : Found) (why : Refusal) (r : Standing) → (tell why at x or r) ≡ Kept → (x ≡ Nothing) × (r ≡ Kept)
-tell_kept (At field) why r e = let c : ◌≡◌ {A = ℕ} 0 1 = cc in absurd (omega arith)
-tell_kept Nothing why r e = (refl, e)
+pub tell_kept : (x : Option ℕ) (why : Refusal) (r : Standing) → (tell why at x or r) ≡ Kept → (x ≡ None) × (r ≡ Kept)
+tell_kept (Some field) why r e = let c : ◌≡◌ {A = ℕ} 0 1 = cc in absurd (omega arith)
+tell_kept None why r e = (refl, e)
 
 pub record Keeps (n : ℕ) (a : Rows) (l : Line) : Type 0 where
   pub stands : placed n a (word_of l) ≡ true
-  pub formed : malformed_at l ≡ Nothing
+  pub formed : malformed_at l ≡ None
   pub bounded : every (bounds a l) ≡ true
   pub whole : every (wholes a l) ≡ true
   pub fits : fault a l ≡ Kept
@@ -252,9 +249,9 @@ task_line_lem n a x g k =
 pub tick_writable : (n : ℕ) (a : Rows) (t : Micros) → Keeps n a (OfTick t) → Writable (OfTick t)
 tick_writable n a t k = omega (arith, (tick_within a t k.bounded).1)
 
-last_short : (p : LastField) → Short (phase_said p).0 → ShortLast p
-last_short Absent h = tt
-last_short (Given u) h = h
+last_short : (p : Option Micros) → Short (phase_said p).0 → ShortLast p
+last_short None h = tt
+last_short (Some u) h = h
 
 server_writable : (n : ℕ) (a : Rows) (s : ServerLine) → Good a → Keeps n a (OfServer s) → Writable (OfServer s)
 unfolding bounds
@@ -289,7 +286,7 @@ task_writable n a x g k =
 -- a malformed line stands nowhere
 pub no_form : (n : ℕ) (a : Rows) (word : Word) (field : ℕ) → Keeps n a (Malformed word field) → ⊥
 no_form n a word field k =
-    let e : At field ≡ Nothing = k.formed in let c : ◌≡◌ {A = ℕ} 0 1 = cc in omega arith
+    let e : Some field ≡ None = k.formed in let c : ◌≡◌ {A = ℕ} 0 1 = cc in omega arith
 
 -- the `tick` line stands first, and no other does
 pub stands_first : (l : Line) → Keeps 1 no_rows l → (t : Micros) × (l ≡ OfTick t)

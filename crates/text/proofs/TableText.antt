@@ -3,6 +3,7 @@
 -- stand is told; where all stand, what follows the last line feed is, and then the end. So a text
 -- is taken exactly if its lines, each closed, all keep the rules where they stand, and it ends as
 -- it should. Assumes nothing.
+use Rattle.std.proofs.Common.{None, Option, Some}
 use mathlib.Core.Path.{◌≡◌, refl, sym, ap, subst, ◌∙◌}
 use mathlib.Core.Bool.{Bool, true, false}
 use mathlib.Core.List.{List, [], ◌∷◌, ◌++◌, map}
@@ -18,8 +19,6 @@ use Rattle.laws.specs.Choice.{unless◌say◌else◌}
 use Rattle.laws.proofs.Choice.{if_ind}
 use Rattle.laws.proofs.Rows.{upto}
 use Rattle.decimal.specs.Lines.{line_feed, split}
-use Rattle.table.specs.declared.Pair.{Pair}
-use Rattle.table.specs.declared.Pair.TheVariants.{Equal as EqualRows, Differ}
 use Rattle.table.specs.declared.Refusal.{Refusal}
 use Rattle.table.specs.declared.Refusal.TheVariants.{Malformed, OutOfBounds}
 use Rattle.table.specs.declared.Standing.{Standing}
@@ -43,10 +42,10 @@ pub unless_not : {A : Type 0} (none : A) (b : Bool) (why : Refusal) (n : ℕ) (r
 unless_not none true why n r e = (refl, refl)
 unless_not none false why n r e = absurd (e why n 0 refl)
 
-pub pair_taken : {A : Type 0} (none : A) (top : ℕ) (p : Pair) (r : ReadOf A) →
-    (pair_told none top p r).answer ≡ Taken → (p ≡ Differ) × (r.answer ≡ Taken)
-pair_taken none top (EqualRows i j) r e = let z : ◌≡◌ {A = ℕ} 0 1 = cc in absurd (omega arith)
-pair_taken none top Differ r e = (refl, e)
+pub pair_taken : {A : Type 0} (none : A) (top : ℕ) (p : Option (ℕ × ℕ)) (r : ReadOf A) →
+    (pair_told none top p r).answer ≡ Taken → (p ≡ None) × (r.answer ≡ Taken)
+pair_taken none top (Some (i, j)) r e = let z : ◌≡◌ {A = ℕ} 0 1 = cc in absurd (omega arith)
+pair_taken none top None r e = (refl, e)
 
 line_not : {A : Type 0} (none : A) (n : ℕ) (j : Standing) (r : ReadOf A) →
     NotRefused (line_told none n j r).answer → (j ≡ Kept) × NotRefused r.answer

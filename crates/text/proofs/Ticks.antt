@@ -1,7 +1,7 @@
 -- From microseconds to ticks and back: a whole number of ticks comes back as it was, and a row
 -- comes back from its line. Of a line only a task time may change on the way, and it does exactly
 -- where it was not whole ticks, and a phase 0, which is left out. Assumes nothing.
-use Rattle.std.specs.Prelude.{if◌then◌else◌}
+use Rattle.std.specs.Prelude.{if◌then◌else◌, None, Option, Some}
 use mathlib.Core.Path.{◌≡◌, refl, sym, ap}
 use mathlib.Core.Bool.{Bool, true, false, not}
 use mathlib.Core.List.{[], ◌∷◌}
@@ -18,8 +18,6 @@ use Rattle.units.specs.declared.Ticks.{Ticks}
 use Rattle.units.specs.declared.Micros.{Micros}
 use Rattle.table.specs.declared.Server.{Server}
 use Rattle.table.specs.declared.Task.{Task}
-use Rattle.text.specs.declared.LastField.{LastField}
-use Rattle.text.specs.declared.LastField.TheVariants.{Absent, Given}
 use Rattle.text.specs.declared.ServerLine.{ServerLine}
 use Rattle.text.specs.declared.Line.{Line}
 use Rattle.text.specs.declared.Line.TheVariants.{OfTick, OfServer, OfTask, Malformed}
@@ -65,44 +63,44 @@ zero_same u t e = go (eqb (u / t) 0) refl
 pub phase_said_lem : (t : ℕ) (x : Ticks) → phase_said (phase_back t x) ≡ in_micros t x
 phase_said_lem t x = go (eqb x.0 0) refl
   where
-    go : (b : Bool) → eqb x.0 0 ≡ b → phase_said (if b then Absent else Given (in_micros t x)) ≡ in_micros t x
+    go : (b : Bool) → eqb x.0 0 ≡ b → phase_said (if b then None else Some (in_micros t x)) ≡ in_micros t x
     go true e = rw (eqb-true x.0 0 e, zero-mul t)
     go false e = refl
 
 -- and what it says is written, but for a phase 0, which is left out
-unfoldable pub left_out : LastField → LastField
-left_out Absent = Absent
-left_out (Given u) = if eqb u.0 0 then Absent else Given u
+unfoldable pub left_out : Option Micros → Option Micros
+left_out None = None
+left_out (Some u) = if eqb u.0 0 then None else Some u
 
-pub said_left_out : (p : LastField) → phase_said (left_out p) ≡ phase_said p
+pub said_left_out : (p : Option Micros) → phase_said (left_out p) ≡ phase_said p
 unfolding left_out
-said_left_out Absent = refl
-said_left_out (Given u) = go (eqb u.0 0) refl
+said_left_out None = refl
+said_left_out (Some u) = go (eqb u.0 0) refl
   where
-    go : (b : Bool) → eqb u.0 0 ≡ b → phase_said (if b then Absent else Given u) ≡ u
+    go : (b : Bool) → eqb u.0 0 ≡ b → phase_said (if b then None else Some u) ≡ u
     go true e = rw (← eqb-true u.0 0 e)
     go false e = refl
 
-phase_back_lem : (t : ℕ) (p : LastField) → whole t (phase_said p) ≡ true → phase_back t (in_ticks t (phase_said p)) ≡ left_out p
+phase_back_lem : (t : ℕ) (p : Option Micros) → whole t (phase_said p) ≡ true → phase_back t (in_ticks t (phase_said p)) ≡ left_out p
 unfolding left_out
-phase_back_lem t Absent e = rw (zero_same 0 t (eqb-true (0 % t) 0 e))
-phase_back_lem t (Given u) e = rw (zero_same u.0 t (eqb-true (u.0 % t) 0 e), back t u e)
+phase_back_lem t None e = rw (zero_same 0 t (eqb-true (0 % t) 0 e))
+phase_back_lem t (Some u) e = rw (zero_same u.0 t (eqb-true (u.0 % t) 0 e), back t u e)
 
-not_zero_stays : (p : LastField) → not_zero p ≡ true → left_out p ≡ p
+not_zero_stays : (p : Option Micros) → not_zero p ≡ true → left_out p ≡ p
 unfolding left_out
-not_zero_stays Absent e = refl
-not_zero_stays (Given u) e = go (eqb u.0 0) e
+not_zero_stays None e = refl
+not_zero_stays (Some u) e = go (eqb u.0 0) e
   where
-    go : (b : Bool) → not b ≡ true → (if b then Absent else Given u) ≡ Given u
+    go : (b : Bool) → not b ≡ true → (if b then None else Some u) ≡ Some u
     go true q = absurd (clash false q refl)
     go false q = refl
 
-stays_not_zero : (p : LastField) → left_out p ≡ p → not_zero p ≡ true
+stays_not_zero : (p : Option Micros) → left_out p ≡ p → not_zero p ≡ true
 unfolding left_out
-stays_not_zero Absent e = refl
-stays_not_zero (Given u) e = go (eqb u.0 0) e
+stays_not_zero None e = refl
+stays_not_zero (Some u) e = go (eqb u.0 0) e
   where
-    go : (b : Bool) → (if b then Absent else Given u) ≡ Given u → not b ≡ true
+    go : (b : Bool) → (if b then None else Some u) ≡ Some u → not b ≡ true
     go true q = let z : ◌≡◌ {A = ℕ} 0 1 = cc in absurd (omega arith)
     go false q = refl
 

@@ -1,17 +1,13 @@
 -- 01, Tables: what a line says, in microseconds, as it stands. Here is judged only whether the line
 -- has the form of a `tick`, a `server` or a `task` line; bounds and rows are judged in
 -- Standing.antt, and know nothing of bytes.
-use Rattle.std.specs.Prelude.{Bool, List, [], ◌∷◌, ◌++◌, ℕ, ◌-◌, ltb, length, get_or, if◌then◌else◌}
-use Rattle.laws.specs.declared.Found.{Found}
-use Rattle.laws.specs.declared.Found.TheVariants.{At, Nothing}
+use Rattle.std.specs.Prelude.{Bool, List, [], ◌∷◌, ◌++◌, ℕ, ◌-◌, ltb, length, get_or, if◌then◌else◌, None, Option, Some}
 use Rattle.laws.specs.Choice.{within}
 use Rattle.laws.specs.Search.{first_failed}
 use Rattle.decimal.specs.Number.{is_number, worth, digits}
 use Rattle.decimal.specs.Lines.{tab, split, join, same}
 use Rattle.units.specs.declared.Micros.{Micros}
 use Rattle.text.specs.declared.Times.{Times}
-use Rattle.text.specs.declared.LastField.{LastField}
-use Rattle.text.specs.declared.LastField.TheVariants.{Absent, Given}
 use Rattle.text.specs.declared.ServerLine.{ServerLine}
 use Rattle.text.specs.declared.TaskLine.{TaskLine}
 use Rattle.text.specs.declared.Word.{Word}
@@ -85,8 +81,8 @@ abbrev pub times_at : List (List ℕ) → Times
 times_at fs = record { n = micros_at fs 5; d1 = micros_at fs 6; d2 = micros_at fs 7 }
 
 -- field k, the last of its form, where the line goes so far
-abbrev pub last_at : List (List ℕ) → ℕ → LastField
-last_at fs k = if ltb (length fs) k then Absent else Given (micros_at fs k)
+abbrev pub last_at : List (List ℕ) → ℕ → Option Micros
+last_at fs k = if ltb (length fs) k then None else Some (micros_at fs k)
 
 abbrev pub server_said : List (List ℕ) → ServerLine
 server_said fs =
@@ -124,23 +120,23 @@ word_of (OfTask k) = ATask
 word_of (Malformed word field) = word
 
 -- the field at which a line is malformed, if it is
-abbrev pub malformed_at : Line → Found
-malformed_at (OfTick t) = Nothing
-malformed_at (OfServer s) = Nothing
-malformed_at (OfTask k) = Nothing
-malformed_at (Malformed word field) = At field
+abbrev pub malformed_at : Line → Option ℕ
+malformed_at (OfTick t) = None
+malformed_at (OfServer s) = None
+malformed_at (OfTask k) = None
+malformed_at (Malformed word field) = Some field
 
 -- what a line of any kind of table says where no field is wrong, and the field that is
-abbrev pub unless_wrong : {L : Type 0} → Found → (ℕ → L) → L → L
-unless_wrong (At field) malformed said = malformed field
-unless_wrong Nothing malformed said = said
+abbrev pub unless_wrong : {L : Type 0} → Option ℕ → (ℕ → L) → L → L
+unless_wrong (Some field) malformed said = malformed field
+unless_wrong None malformed said = said
 
 -- 02, No. 2: "leftmost field concerned"
 abbrev pub formed_or : {L : Type 0} → (ℕ → L) → Form → List (List ℕ) → L → L
 formed_or malformed form fs said = unless_wrong (first_failed (form_tests form fs)) malformed said
 
 -- of document 01's lines
-abbrev pub said_unless : Found → Line → Line
+abbrev pub said_unless : Option ℕ → Line → Line
 said_unless wrong said = unless_wrong wrong (Malformed (word_of said)) said
 
 abbrev pub formed : Form → List (List ℕ) → Line → Line
@@ -169,9 +165,9 @@ read_line l = line_of (split tab l)
 abbrev pub times_fields : Times → List (List ℕ)
 times_fields x = digits x.n.0 ∷ digits x.d1.0 ∷ digits x.d2.0 ∷ []
 
-abbrev pub last_fields : LastField → List (List ℕ)
-last_fields Absent = []
-last_fields (Given u) = digits u.0 ∷ []
+abbrev pub last_fields : Option Micros → List (List ℕ)
+last_fields None = []
+last_fields (Some u) = digits u.0 ∷ []
 
 unfoldable pub fields_of : Line → List (List ℕ)
 fields_of (OfTick t) = tick_word ∷ digits t.0 ∷ []

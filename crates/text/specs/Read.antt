@@ -2,9 +2,8 @@
 -- 4; then 5 for the first pair of server rows with equal priority, smaller row first (pairs ordered
 -- by it, then by the larger row), then the same for tasks." 02, No. 2: "4 goes; 41 to 45 stand in
 -- its place"; "with 1, 2, 3 and all of these give the field".
-use Rattle.std.specs.Prelude.{not, List, [], ◌∷◌, ℕ, ◌+◌, length}
+use Rattle.std.specs.Prelude.{not, List, [], ◌∷◌, ℕ, ◌+◌, length, Option}
 use Rattle.laws.specs.Choice.{unless◌say◌else◌}
-use Rattle.table.specs.declared.Pair.{Pair}
 use Rattle.table.specs.declared.Refusal.{Refusal}
 use Rattle.table.specs.declared.Refusal.TheVariants.{Malformed, EqualPriorities}
 use Rattle.table.specs.Refusals.{number_of}
@@ -44,7 +43,7 @@ abbrev pub equal : ℕ → ℕ → ReadRows
 equal = equal_beside no_rows
 
 -- 5, "equal priorities", "both lines": row 0 stands on line `top`
-abbrev pub pair_said : ℕ → Pair → ReadRows → ReadRows
+abbrev pub pair_said : ℕ → Option (ℕ × ℕ) → ReadRows → ReadRows
 pair_said = pair_told no_rows
 
 -- Servers stand below the `tick` line, tasks below the servers. "then the same for tasks"

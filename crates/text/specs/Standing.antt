@@ -2,9 +2,7 @@
 -- No. 2: "4 goes; 41 to 45 stand in its place", and which field is told, "counted from 1 after the
 -- leading word, or 0 for the line itself". A rule on the fields is a list of tests, one for the
 -- line itself and one for each field: the place of the first that fails is the field told.
-use Rattle.std.specs.Prelude.{Bool, true, false, not, ◌&&◌, List, [], ◌∷◌, ◌++◌, ℕ, ◌+◌, ◌*◌, ◌/◌, ◌%◌, leb, ltb, eqb, length}
-use Rattle.laws.specs.declared.Found.{Found}
-use Rattle.laws.specs.declared.Found.TheVariants.{At, Nothing}
+use Rattle.std.specs.Prelude.{Bool, true, false, not, ◌&&◌, List, [], ◌∷◌, ◌++◌, ℕ, ◌+◌, ◌*◌, ◌/◌, ◌%◌, leb, ltb, eqb, length, None, Option, Some}
 use Rattle.laws.specs.Choice.{unless◌say◌else◌, within}
 use Rattle.laws.specs.Search.{first_failed}
 use Rattle.laws.specs.RoundUp.{up}
@@ -20,8 +18,6 @@ use Rattle.table.specs.declared.Standing.TheVariants.{Kept, Broken}
 use Rattle.table.specs.Rows.{Rows}
 use Rattle.table.specs.Rules.{tick_keeps, priority_keeps, limit_keeps, task_fault}
 use Rattle.text.specs.declared.Times.{Times}
-use Rattle.text.specs.declared.LastField.{LastField}
-use Rattle.text.specs.declared.LastField.TheVariants.{Absent, Given}
 use Rattle.text.specs.declared.ServerLine.{ServerLine}
 use Rattle.text.specs.declared.TaskLine.{TaskLine}
 use Rattle.text.specs.declared.Word.{Word}
@@ -41,9 +37,9 @@ abbrev pub in_ticks : ℕ → Micros → Ticks
 in_ticks t u = record { 0 = u.0 / t }
 
 -- 02, No. 7: "A row without the field has phase 0"
-abbrev pub phase_said : LastField → Micros
-phase_said Absent = record { 0 = 0 }
-phase_said (Given u) = u
+abbrev pub phase_said : Option Micros → Micros
+phase_said None = record { 0 = 0 }
+phase_said (Some u) = u
 
 abbrev pub server_of : ℕ → ServerLine → Server
 server_of t s =
@@ -159,9 +155,9 @@ fault a (MalformedLine word field) = Kept
 
 -- the field at which a test fails is told with its reason; where none does, r is said
 infixr 5 tell◌at◌or◌
-abbrev pub tell◌at◌or◌ : Refusal → Found → Standing → Standing
-tell◌at◌or◌ why (At field) r = Broken why field
-tell◌at◌or◌ why Nothing r = r
+abbrev pub tell◌at◌or◌ : Refusal → Option ℕ → Standing → Standing
+tell◌at◌or◌ why (Some field) r = Broken why field
+tell◌at◌or◌ why None r = r
 
 -- All of 1, then all of 2, all of 3, then 41 to 45. A line that is misplaced has the wrong leading
 -- word for its place: "told first, as 0".

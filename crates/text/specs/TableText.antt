@@ -1,11 +1,9 @@
 -- 01, Numbers for no: how the text of a table is read, of whatever kind the table is. "Reading:
 -- length first; then line by line". What is a kind's own (what its lines say, where they may stand,
 -- what is asked at the end) is a record TableText; document 01's is table_text in Read.antt.
-use Rattle.std.specs.Prelude.{◌≡◌, List, [], ◌∷◌, map, ℕ, ◌+◌, leb, length, get_or, take}
+use Rattle.std.specs.Prelude.{◌≡◌, List, [], ◌∷◌, map, ℕ, ◌+◌, leb, length, get_or, take, None, Option, Some}
 use Rattle.laws.specs.Choice.{unless◌say◌else◌}
 use Rattle.decimal.specs.Lines.{line_feed, split}
-use Rattle.table.specs.declared.Pair.{Pair}
-use Rattle.table.specs.declared.Pair.TheVariants.{Equal as EqualRows, Differ}
 use Rattle.table.specs.declared.Refusal.{Refusal}
 use Rattle.table.specs.declared.Refusal.TheVariants.{Malformed, OutOfBounds}
 use Rattle.table.specs.declared.Standing.{Standing}
@@ -31,9 +29,9 @@ equal_beside none first second = record { answer = Equal first second; rows = no
 
 -- 5, "equal priorities", "both lines". "Rows count from 0 within their kind, lines from 1": row 0
 -- stands on line `top`. Where no two are equal, r is said.
-abbrev pub pair_told : {A : Type 0} → A → ℕ → Pair → ReadOf A → ReadOf A
-pair_told none top (EqualRows i j) r = equal_beside none (top + i) (top + j)
-pair_told none top Differ r = r
+abbrev pub pair_told : {A : Type 0} → A → ℕ → Option (ℕ × ℕ) → ReadOf A → ReadOf A
+pair_told none top (Some (i, j)) r = equal_beside none (top + i) (top + j)
+pair_told none top None r = r
 
 -- The first line that breaks a rule is told. Where line n keeps them, r is said.
 abbrev pub line_told : {A : Type 0} → A → ℕ → Standing → ReadOf A → ReadOf A

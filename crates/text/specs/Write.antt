@@ -1,6 +1,6 @@
 -- 01, Tables and Numbers for no: the text of a table's rows, and what the writer answers and leaves
 -- in the lent room.
-use Rattle.std.specs.Prelude.{Bool, true, not, ◌&&◌, List, [], ◌∷◌, ◌++◌, map, ℕ, ◌*◌, leb, eqb, length, drop, if◌then◌else◌}
+use Rattle.std.specs.Prelude.{Bool, true, not, ◌&&◌, List, [], ◌∷◌, ◌++◌, map, ℕ, ◌*◌, leb, eqb, length, drop, if◌then◌else◌, Err, None, Ok, Option, Result, Some}
 use Rattle.laws.specs.Choice.{unless◌say◌else◌, every}
 use Rattle.decimal.specs.Lines.{line_feed, split, closed}
 use Rattle.units.specs.declared.Ticks.{Ticks}
@@ -15,14 +15,10 @@ use Rattle.table.specs.Refusals.{number_of}
 use Rattle.table.specs.Rows.{Rows, rows_of}
 use Rattle.table.specs.Rules.{table_keeps}
 use Rattle.text.specs.declared.Times.{Times}
-use Rattle.text.specs.declared.LastField.{LastField}
-use Rattle.text.specs.declared.LastField.TheVariants.{Absent, Given}
 use Rattle.text.specs.declared.ServerLine.{ServerLine}
 use Rattle.text.specs.declared.TaskLine.{TaskLine}
 use Rattle.text.specs.declared.Line.{Line}
 use Rattle.text.specs.declared.Line.TheVariants.{OfTick, OfServer, OfTask, Malformed}
-use Rattle.text.specs.declared.Writing.{Writing}
-use Rattle.text.specs.declared.Writing.TheVariants.{Written, Refused}
 use Rattle.text.specs.Line.{read_line, write_line}
 use Rattle.text.specs.Standing.{whole}
 
@@ -35,8 +31,8 @@ abbrev pub times_back : ℕ → ByMode → Times
 times_back t x = record { n = in_micros t x.n; d1 = in_micros t x.d1; d2 = in_micros t x.d2 }
 
 -- 02, No. 7: at phase 0 "the writer then leaves the field out"
-abbrev pub phase_back : ℕ → Ticks → LastField
-phase_back t x = if eqb x.0 0 then Absent else Given (in_micros t x)
+abbrev pub phase_back : ℕ → Ticks → Option Micros
+phase_back t x = if eqb x.0 0 then None else Some (in_micros t x)
 
 abbrev pub server_back : ℕ → Server → ServerLine
 server_back t s =
@@ -75,26 +71,26 @@ write a = closed (map write_line (lines_of a))
 
 -- The paper's number of each answer, 0 where the text is written, and the value with it: how many
 -- bytes are the text.
-abbrev pub writing_number : Writing → ℕ
-writing_number (Written many) = 0
-writing_number (Refused why) = number_of why
+abbrev pub writing_number : Result ℕ Refusal → ℕ
+writing_number (Ok many) = 0
+writing_number (Err why) = number_of why
 
-abbrev pub writing_values : Writing → List ℕ
-writing_values (Written many) = many ∷ []
-writing_values (Refused why) = []
+abbrev pub writing_values : Result ℕ Refusal → List ℕ
+writing_values (Ok many) = many ∷ []
+writing_values (Err why) = []
 
 -- The answer, and the lent room after it.
 pub record Wrote : Type 0 where
-  pub answer : Writing
+  pub answer : Result ℕ Refusal
   pub room : List ℕ
 
 -- 12: "room as it was"; 13: "it, as it was"
 abbrev pub unwritten : Refusal → List ℕ → Wrote
-unwritten why room = record { answer = Refused why; room = room }
+unwritten why room = record { answer = Err why; room = room }
 
 -- "A writer changes nothing beyond the text."
 abbrev pub written : List ℕ → List ℕ → Wrote
-written text room = record { answer = Written (length text); room = text ++ drop (length text) room }
+written text room = record { answer = Ok (length text); room = text ++ drop (length text) room }
 
 -- "Others: 13 first"; 12, "lent room shorter than the text"
 unfoldable pub wrote : Table → List ℕ → Wrote
@@ -120,9 +116,9 @@ abbrev pub times_whole : ℕ → List ℕ → Bool
 times_whole t text = all_lines (task_times_whole t) (split line_feed text)
 
 -- 02, No. 7: "so 01's rule on reading then writing also asks that no phase 0 was written"
-abbrev pub not_zero : LastField → Bool
-not_zero Absent = true
-not_zero (Given u) = not (eqb u.0 0)
+abbrev pub not_zero : Option Micros → Bool
+not_zero None = true
+not_zero (Some u) = not (eqb u.0 0)
 
 abbrev pub phase_not_zero : Line → Bool
 phase_not_zero (OfTick u) = true

@@ -18,13 +18,7 @@ pub struct Times {
     pub d2: Micros,
 }
 
-// A last field that may be absent: a server's phase.
-#[derive(Clone, Copy)]
-pub enum LastField {
-    Absent,
-    Given(Micros),
-}
-
+// The phase is the last field, which may be absent.
 #[derive(Clone, Copy)]
 pub struct ServerLine {
     pub partition: u64,
@@ -32,7 +26,7 @@ pub struct ServerLine {
     pub priority: u64,
     pub period: Micros,
     pub capacity: Times,
-    pub phase: LastField,
+    pub phase: Option<Micros>,
 }
 
 #[derive(Clone, Copy)]
@@ -85,11 +79,4 @@ pub enum Reading {
 pub struct Read {
     pub answer: Reading,
     pub table: Table,
-}
-
-// What the writer answers: how many bytes of the lent room are the text, or why there is none.
-#[derive(Clone, Copy)]
-pub enum Writing {
-    Written(usize),
-    Refused(Refusal),
 }

@@ -1,5 +1,6 @@
 -- Whether a table fits, as its verdicts are written out and read: row by row, and mode by mode.
 -- Assumes nothing.
+use Rattle.std.proofs.Common.{None, Option, Some}
 use mathlib.Core.Path.{◌≡◌, refl, sym, ap, subst, ◌∙◌}
 use mathlib.Core.Bool.{Bool, true, false}
 use mathlib.Core.List.{List}
@@ -9,8 +10,6 @@ use native.Mathlib.Omega.{arith}
 use lib.ListN.{length, get_or, set, replicate, length-set, length-replicate, get_or-replicate}
 use lib.Seq.{get_or-set_same, get_or-set_other}
 use borrow.Author.Count.{below_more}
-use Rattle.laws.specs.declared.Found.{Found}
-use Rattle.laws.specs.declared.Found.TheVariants.{At, Nothing}
 use Rattle.laws.proofs.Choice.{le_or_lt, clash, true_or_false}
 use Rattle.laws.proofs.Search.{hit, miss, is_least, found_passes, found_first, none_passes}
 use Rattle.laws.proofs.Search.{NoneFinds, FirstAt, First, first, nowhere, first_at, first_none, first_is}
@@ -131,21 +130,21 @@ module _ (t : Table) (m : Mode) where
     absent_not : (i : ℕ) → t.nservers ≤ i → misses i ≡ false
     absent_not i h = ap is_miss (verdict_absent t m i keeps h)
 
-    pub row_told : (i : ℕ) (f : Found) → i < t.nservers → response_at t m i ≡ f → misses i ≡ is_miss (told f)
+    pub row_told : (i : ℕ) (f : Option ℕ) → i < t.nservers → response_at t m i ≡ f → misses i ≡ is_miss (told f)
     row_told i f h e = ap is_miss (verdict_told t m i keeps h ∙ ap told e)
 
-    pub row_misses : (i : ℕ) → i < t.nservers → misses i ≡ true → NoneMisses i → At i ≡ least_row (verdicts_of t) m
+    pub row_misses : (i : ℕ) → i < t.nservers → misses i ≡ true → NoneMisses i → Some i ≡ least_row (verdicts_of t) m
     unfolding least_row
     row_misses i h e none =
         let few = few_servers t keeps in
-        is_least read 0 (length (verdicts_of t)) (At i)
+        is_least read 0 (length (verdicts_of t)) (Some i)
         (hit i (omega arith) (omega (arith, verdicts_length t)) (read_at i (omega arith) ∙ e)
         (λ k l u. read_at k (omega arith) ∙ none k u))
 
-    pub no_row_misses : NoneMisses t.nservers → Nothing ≡ least_row (verdicts_of t) m
+    pub no_row_misses : NoneMisses t.nservers → None ≡ least_row (verdicts_of t) m
     unfolding least_row
     no_row_misses none =
-        is_least read 0 (length (verdicts_of t)) Nothing
+        is_least read 0 (length (verdicts_of t)) None
         (miss (λ k l u. let h : k < 32 = omega (arith, verdicts_length t) in read_at k h ∙ row k (le_or_lt t.nservers k)))
       where
         row : (k : ℕ) → (t.nservers ≤ k) ⊎ (k < t.nservers) → misses k ≡ false
@@ -153,7 +152,7 @@ module _ (t : Table) (m : Mode) where
         row k (inr l) = none k l
 
   -- what is found, and what it says where nothing is
-  row_found : (i : ℕ) → least_row (verdicts_of t) m ≡ At i →
+  row_found : (i : ℕ) → least_row (verdicts_of t) m ≡ Some i →
       (verdict_of t i m ≡ Misses) × ((j : ℕ) → j < i → verdict_of t j m ≡ Misses → ⊥)
   unfolding least_row
   row_found i e =
@@ -165,7 +164,7 @@ module _ (t : Table) (m : Mode) where
             clash (misses j) (ap is_miss q) (sym (read_at j (omega arith)) ∙ found_first read 0 n i e j (omega arith) l),
       )
 
-  row_none : least_row (verdicts_of t) m ≡ Nothing → (i : ℕ) → verdict_of t i m ≡ Misses → ⊥
+  row_none : least_row (verdicts_of t) m ≡ None → (i : ℕ) → verdict_of t i m ≡ Misses → ⊥
   unfolding least_row
   row_none e i q =
       let s = ((misses_exactly t m i).0 q).0 in
@@ -176,7 +175,7 @@ module _ (t : Table) (m : Mode) where
 
 -- The least mode with such a row.
 module _ (t : Table) where
-  abbrev pub row_in : ℕ → Found
+  abbrev pub row_in : ℕ → Option ℕ
   row_in k = least_row (verdicts_of t) (mode_said k)
 
   pub fits_unsound : table_keeps t ≡ false → NoFits Unsound ≡ fits_of t
@@ -211,7 +210,7 @@ pub data Answers (t : Table) : Fits → Type 0 where
 
 module _ (t : Table) where
   -- in the mode that a number says, nothing is found
-  none_in : table_keeps t ≡ true → (k : ℕ) → ((i : ℕ) → verdict_of t i (mode_said k) ≡ Misses → ⊥) → row_in t k ≡ Nothing
+  none_in : table_keeps t ≡ true → (k : ℕ) → ((i : ℕ) → verdict_of t i (mode_said k) ≡ Misses → ⊥) → row_in t k ≡ None
   none_in e k h = sym (no_row_misses t (mode_said k) e (λ i l. no_miss (verdict_of t i (mode_said k)) (h i)))
 
   -- the answer says one of these
@@ -219,7 +218,7 @@ module _ (t : Table) where
   unfolding from_verdicts
   fits_is = go (true_or_false (table_keeps t))
     where
-      earlier : (n : Mode) (k : ℕ) → mode_value n < k → ((j : ℕ) → j < k → row_in t j ≡ Nothing) → (i : ℕ) →
+      earlier : (n : Mode) (k : ℕ) → mode_value n < k → ((j : ℕ) → j < k → row_in t j ≡ None) → (i : ℕ) →
           verdict_of t i n ≡ Misses → ⊥
       earlier n k h f i =
           row_none t n (ap (least_row (verdicts_of t)) (sym (mode_back n)) ∙ f (mode_value n) h) i

@@ -1,13 +1,12 @@
 -- The climb to the response: what it stops at is the least number that meets the inequality, since
 -- the interference never falls. Assumes nothing.
+use Rattle.std.proofs.Common.{None, Option, Some}
 use mathlib.Core.Path.{◌≡◌, sym, ◌∙◌}
 use mathlib.Core.Bool.{Bool}
 use mathlib.Core.List.{List}
 use Prim.Native.Nat.{ℕ, ◌+◌, ◌≤◌, ◌<◌}
 use native.Mathlib.Omega.{arith}
 use borrow.Author.Tests.{eq-eqb, ne_eqb}
-use Rattle.laws.specs.declared.Found.{Found}
-use Rattle.laws.specs.declared.Found.TheVariants.{At, Nothing}
 use Rattle.laws.specs.Search.{least}
 use Rattle.laws.proofs.Search.{Searched, hit, miss, least_is, is_least}
 use Rattle.laws.proofs.Climb.{NonePasses, climb_next, climb_found, climb_none}
@@ -33,18 +32,18 @@ module _ (n : ℕ) (periods capacities late : List ℕ) (c : ℕ) where
       none)
 
   pub found_least : (r d p : ℕ) → d ≡ interference_in n periods capacities late r → 1 ≤ r → r ≤ p → c + d ≤ r →
-      NonePasses (meets_in n periods capacities late c) 1 r → At r ≡ least (meets_in n periods capacities late c) 1 p
+      NonePasses (meets_in n periods capacities late c) 1 r → Some r ≡ least (meets_in n periods capacities late c) 1 p
   unfolding meets_in
   found_least r d p e low high le none =
       climb_found (λ x. c + interference_in n periods capacities late x) 1 p r low (omega arith) (omega arith) none
 
   pub found_none : (r p : ℕ) → p < r → NonePasses (meets_in n periods capacities late c) 1 r →
-      Nothing ≡ least (meets_in n periods capacities late c) 1 p
+      None ≡ least (meets_in n periods capacities late c) 1 p
   unfolding meets_in
   found_none r p h none = climb_none (λ x. c + interference_in n periods capacities late x) 1 p r (omega arith) none
 
 -- two tests that say the same of each number find the same
-searched_same : (p q : ℕ → Bool) → ((x : ℕ) → p x ≡ q x) → (r n : ℕ) (a : Found) → Searched p r n a → Searched q r n a
+searched_same : (p q : ℕ → Bool) → ((x : ℕ) → p x ≡ q x) → (r n : ℕ) (a : Option ℕ) → Searched p r n a → Searched q r n a
 searched_same p q e r n a (hit x l u t z) = hit x l u (sym (e x) ∙ t) (λ y b c. sym (e y) ∙ z y b c)
 searched_same p q e r n a (miss z) = miss (λ y b c. sym (e y) ∙ z y b c)
 
@@ -58,11 +57,11 @@ module _ (t : Table) (m : Mode) (i : ℕ) where
   meets_same h c x k e = rw (e, k.asks x)
 
   -- "For capacity 0 the response is 0. Else .."
-  pub response_zero : (c : ℕ) → c ≡ capacity_at t m i → c ≡ 0 → At 0 ≡ response_at t m i
+  pub response_zero : (c : ℕ) → c ≡ capacity_at t m i → c ≡ 0 → Some 0 ≡ response_at t m i
   unfolding response_at
   response_zero c e z = rw (eq-eqb (capacity_at t m i) 0 (omega arith))
 
-  pub response_else : (c : ℕ) (h : Higher) (r : Found) → c ≡ capacity_at t m i → (c ≡ 0 → ⊥) → Delaying t m i h →
+  pub response_else : (c : ℕ) (h : Higher) (r : Option ℕ) → c ≡ capacity_at t m i → (c ≡ 0 → ⊥) → Delaying t m i h →
       r ≡ least (meets_in h.count h.periods h.capacities h.late c) 1 (period_at t i) → r ≡ response_at t m i
   unfolding response_at
   response_else c h r e z k f =

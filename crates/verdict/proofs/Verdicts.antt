@@ -1,13 +1,12 @@
 -- 01, Verdicts, as theorems on the definition, so on the code: what a verdict says is read off the
 -- search that gives it. Assumes nothing.
+use Rattle.std.proofs.Common.{None, Option, Some}
 use mathlib.Core.Path.{◌≡◌, refl, sym, ap, ◌∙◌}
 use mathlib.Core.Bool.{true, false}
 use mathlib.Core.Logic.{◌⊎◌, inl, inr, ◌↔◌}
 use Prim.Native.Nat.{ℕ, ◌+◌, ◌≤◌, ◌<◌}
 use native.Mathlib.Omega.{arith}
 use borrow.Author.Tests.{lt-ltb, le-ltb, leb-true, leb-false, le-leb, eq-eqb, ne_eqb}
-use Rattle.laws.specs.declared.Found.{Found}
-use Rattle.laws.specs.declared.Found.TheVariants.{At, Nothing}
 use Rattle.laws.specs.Search.{least}
 use Rattle.laws.proofs.Choice.{true_or_false, le_or_lt}
 use Rattle.laws.proofs.Search.{hit, miss, is_least, found_passes, found_first, none_passes}
@@ -59,16 +58,16 @@ module _ (t : Table) (m : Mode) (i : ℕ) where
   unfolding response_at
   searched h = rw (ne_eqb (capacity_at t m i) 0 (λ e. omega arith))
 
-  unsearched : capacity_at t m i ≡ 0 → response_at t m i ≡ At 0
+  unsearched : capacity_at t m i ≡ 0 → response_at t m i ≡ Some 0
   unfolding response_at
   unsearched e = rw (eq-eqb (capacity_at t m i) 0 e)
 
-  pub least_response : (r : ℕ) → 0 < capacity_at t m i → (response_at t m i ≡ At r) ↔ LeastResponse t m i r
+  pub least_response : (r : ℕ) → 0 < capacity_at t m i → (response_at t m i ≡ Some r) ↔ LeastResponse t m i r
   least_response r h = (to, back)
     where
-      to : response_at t m i ≡ At r → LeastResponse t m i r
+      to : response_at t m i ≡ Some r → LeastResponse t m i r
       to e =
-          let f : least (meets t m i) 1 (period_at t i) ≡ At r = sym (searched h) ∙ e in
+          let f : least (meets t m i) 1 (period_at t i) ≡ Some r = sym (searched h) ∙ e in
           let p = found_passes (meets t m i) 1 (period_at t i) r f in
           record {
             from_one = p.1;
@@ -77,7 +76,7 @@ module _ (t : Table) (m : Mode) (i : ℕ) where
             none_below = λ x l u. meets_false x (found_first (meets t m i) 1 (period_at t i) r f x l u);
           }
 
-      back : LeastResponse t m i r → response_at t m i ≡ At r
+      back : LeastResponse t m i r → response_at t m i ≡ Some r
       back l =
           searched h
           ∙ sym
@@ -85,27 +84,27 @@ module _ (t : Table) (m : Mode) (i : ℕ) where
           (meets t m i)
           1
           (period_at t i)
-          (At r)
+          (Some r)
           (hit r l.from_one (omega (arith, l.to_period)) (is_met r l.meets)
           (λ x k u. is_missed x (l.none_below x k u))))
 
   pub no_response : 0 < capacity_at t m i →
-      (response_at t m i ≡ Nothing) ↔ ((x : ℕ) → 1 ≤ x → x ≤ period_at t i → Meets t m i x → ⊥)
+      (response_at t m i ≡ None) ↔ ((x : ℕ) → 1 ≤ x → x ≤ period_at t i → Meets t m i x → ⊥)
   no_response h = (to, back)
     where
-      to : response_at t m i ≡ Nothing → (x : ℕ) → 1 ≤ x → x ≤ period_at t i → Meets t m i x → ⊥
+      to : response_at t m i ≡ None → (x : ℕ) → 1 ≤ x → x ≤ period_at t i → Meets t m i x → ⊥
       to e x l u = meets_false x (none_passes (meets t m i) 1 (period_at t i) (sym (searched h) ∙ e) x l (omega arith))
 
-      back : ((x : ℕ) → 1 ≤ x → x ≤ period_at t i → Meets t m i x → ⊥) → response_at t m i ≡ Nothing
+      back : ((x : ℕ) → 1 ≤ x → x ≤ period_at t i → Meets t m i x → ⊥) → response_at t m i ≡ None
       back none =
           searched h
-          ∙ sym (is_least (meets t m i) 1 (period_at t i) Nothing (miss (λ x l u. is_missed x (none x l (omega arith)))))
+          ∙ sym (is_least (meets t m i) 1 (period_at t i) None (miss (λ x l u. is_missed x (none x l (omega arith)))))
 
-  pub response_most : (r : ℕ) → response_at t m i ≡ At r → r ≤ period_at t i
+  pub response_most : (r : ℕ) → response_at t m i ≡ Some r → r ≤ period_at t i
   response_most r e = go (le_or_lt (capacity_at t m i) 0)
     where
       go : (capacity_at t m i ≤ 0) ⊎ (0 < capacity_at t m i) → r ≤ period_at t i
-      go (inl h) = let f : At r ≡ At 0 = sym e ∙ unsearched (omega arith) in let g : r ≡ 0 = cc in omega arith
+      go (inl h) = let f : Some r ≡ Some 0 = sym e ∙ unsearched (omega arith) in let g : r ≡ 0 = cc in omega arith
       go (inr h) = ((least_response r h).0 e).to_period
 
   -- how the door is passed
@@ -135,17 +134,17 @@ way t m i = go (true_or_false (table_keeps t)) (le_or_lt t.nservers i)
     go (inl e) (inl h) = absent e h (verdict_absent t m i e h)
     go (inl e) (inr h) = served e h (verdict_told t m i e h)
 
-told_no : (f : Found) (x : Refusal) → told f ≡ No x → ⊥
-told_no (At r) x e = let z : ◌≡◌ {A = ℕ} 0 1 = cc in omega arith
-told_no Nothing x e = let z : ◌≡◌ {A = ℕ} 0 1 = cc in omega arith
+told_no : (f : Option ℕ) (x : Refusal) → told f ≡ No x → ⊥
+told_no (Some r) x e = let z : ◌≡◌ {A = ℕ} 0 1 = cc in omega arith
+told_no None x e = let z : ◌≡◌ {A = ℕ} 0 1 = cc in omega arith
 
-told_at_lem : (f : Found) (r : Ticks) → told f ≡ Response r → f ≡ At r.0
-told_at_lem (At x) r e = let q : record { 0 = x } ≡ r = cc in ap (λ (y : Ticks). At y.0) q
-told_at_lem Nothing r e = let z : ◌≡◌ {A = ℕ} 0 1 = cc in absurd (omega arith)
+told_at_lem : (f : Option ℕ) (r : Ticks) → told f ≡ Response r → f ≡ Some r.0
+told_at_lem (Some x) r e = let q : record { 0 = x } ≡ r = cc in ap (λ (y : Ticks). Some y.0) q
+told_at_lem None r e = let z : ◌≡◌ {A = ℕ} 0 1 = cc in absurd (omega arith)
 
-told_nothing : (f : Found) → told f ≡ Misses → f ≡ Nothing
-told_nothing (At x) e = let z : ◌≡◌ {A = ℕ} 0 1 = cc in absurd (omega arith)
-told_nothing Nothing e = refl
+told_nothing : (f : Option ℕ) → told f ≡ Misses → f ≡ None
+told_nothing (Some x) e = let z : ◌≡◌ {A = ℕ} 0 1 = cc in absurd (omega arith)
+told_nothing None e = refl
 
 module _ (t : Table) (m : Mode) (i : ℕ) where
   -- 13 exactly for a table that breaks the rules
@@ -168,10 +167,10 @@ module _ (t : Table) (m : Mode) (i : ℕ) where
 
   -- a response is given to a row of a sound table, and is the search's
   response_told : (r : Ticks) → verdict_of t i m ≡ Response r →
-      (table_keeps t ≡ true) × (i < t.nservers) × (response_at t m i ≡ At r.0)
+      (table_keeps t ≡ true) × (i < t.nservers) × (response_at t m i ≡ Some r.0)
   response_told r v = go (way t m i)
     where
-      go : Way t m i → (table_keeps t ≡ true) × (i < t.nservers) × (response_at t m i ≡ At r.0)
+      go : Way t m i → (table_keeps t ≡ true) × (i < t.nservers) × (response_at t m i ≡ Some r.0)
       go (unsound e f) = let z : ◌≡◌ {A = ℕ} 0 1 = cc in absurd (omega arith)
       go (absent e h f) = let z : ◌≡◌ {A = ℕ} 0 1 = cc in absurd (omega arith)
       go (served e h f) = (e, h, told_at_lem (response_at t m i) r (sym f ∙ v))
@@ -202,7 +201,7 @@ module _ (t : Table) (m : Mode) (i : ℕ) where
       (verdict_of t i m ≡ Misses) ↔ (Served t m i × ((x : ℕ) → 1 ≤ x → x ≤ period_at t i → Meets t m i x → ⊥))
   misses_exactly = (go (way t m i), back)
     where
-      some : response_at t m i ≡ Nothing → (capacity_at t m i ≤ 0) ⊎ (0 < capacity_at t m i) → 0 < capacity_at t m i
+      some : response_at t m i ≡ None → (capacity_at t m i ≤ 0) ⊎ (0 < capacity_at t m i) → 0 < capacity_at t m i
       some e (inl h) = let f = unsearched t m i (omega arith) in let z : ◌≡◌ {A = ℕ} 0 1 = cc in absurd (omega arith)
       some e (inr h) = h
 

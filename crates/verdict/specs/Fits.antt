@@ -1,8 +1,7 @@
 -- 02, No. 5: "Does this table fit, yes or no. The commissioning crew asks only whether any server
 -- misses in any of the three modes. .. The answer must equal the one read from all verdicts written
 -- out."
-use Rattle.std.specs.Prelude.{Bool, true, false, List, [], ◌∷◌, ℕ, length, get_or}
-use Rattle.laws.specs.declared.Found.{Found}
+use Rattle.std.specs.Prelude.{Bool, true, false, List, [], ◌∷◌, ℕ, length, get_or, Option}
 use Rattle.laws.specs.Choice.{unless◌say◌else◌}
 use Rattle.laws.specs.Rows.{listed}
 use Rattle.laws.specs.Search.{least, first_of}
@@ -48,7 +47,7 @@ abbrev pub no_verdicts : Refusal → RowVerdicts
 no_verdicts why = record { n = No why; d1 = No why; d2 = No why }
 
 -- "the least row" that misses in a mode
-unfoldable pub least_row : List RowVerdicts → Mode → Found
+unfoldable pub least_row : List RowVerdicts → Mode → Option ℕ
 least_row vs m = least (λ i. is_miss (verdict_in (get_or vs i (no_verdicts NoServer)) m)) 0 (length vs)
 
 -- "the least mode in the order N, D1, D2, then the least row"; yes where there is none

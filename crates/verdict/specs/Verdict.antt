@@ -1,7 +1,5 @@
 -- 01, Verdicts.
-use Rattle.std.specs.Prelude.{Bool, ℕ, ◌+◌, ◌*◌, ◌-◌, leb, ltb, eqb, if◌then◌else◌}
-use Rattle.laws.specs.declared.Found.{Found}
-use Rattle.laws.specs.declared.Found.TheVariants.{At, Nothing}
+use Rattle.std.specs.Prelude.{Bool, ℕ, ◌+◌, ◌*◌, ◌-◌, leb, ltb, eqb, if◌then◌else◌, None, Option, Some}
 use Rattle.laws.specs.Choice.{unless◌say◌else◌}
 use Rattle.laws.specs.Search.{least}
 use Rattle.laws.specs.Rows.{sum_below}
@@ -37,13 +35,13 @@ meets t m i r = leb (capacity_at t m i + interference t m i r) r
 
 -- "For capacity 0 the response is 0. Else it is the least R from 1 to the period T with C + I(R) <=
 -- R, all in one mode"
-unfoldable pub response_at : Table → Mode → ℕ → Found
-response_at t m i = if eqb (capacity_at t m i) 0 then At 0 else least (meets t m i) 1 (period_at t i)
+unfoldable pub response_at : Table → Mode → ℕ → Option ℕ
+response_at t m i = if eqb (capacity_at t m i) 0 then Some 0 else least (meets t m i) 1 (period_at t i)
 
 -- "If no such R exists, "misses"."
-abbrev pub told : Found → Verdict
-told (At r) = Response (record { 0 = r })
-told Nothing = Misses
+abbrev pub told : Option ℕ → Verdict
+told (Some r) = Response (record { 0 = r })
+told None = Misses
 
 -- The verdict for a server row in a mode; "13 first", then 11.
 unfoldable pub verdict_of : Table → ℕ → Mode → Verdict

@@ -10,7 +10,6 @@ ghost use Rattle.verdict.specs.Inner.{late_of, interference_in, meets_in, Column
 ghost use Rattle.verdict.specs.Verdict.{response_at, verdict_of};
 ghost use Rattle.verdict.specs.Fits.{row_verdicts, verdicts_of, no_verdicts, least_row, fits_of};
 
-use laws::Found;
 use table::{Kind, MODES, Mode, Refusal, SERVERS, Table};
 use units::Ticks;
 
@@ -129,7 +128,7 @@ fn climb<'a>(
     late: &'a [u32; SERVERS],
     capacity: u32,
     period: u32,
-) -> Found
+) -> Option<usize>
     requires { Columns count periods.now capacities.now late.now × (capacity ≤ period) × (period ≤ 1000000) }
     ensures { result ≡ least (meets_in count periods.now capacities.now late.now capacity) 1 period }
 {
@@ -137,15 +136,15 @@ fn climb<'a>(
     while r <= period {
         let next = capacity + interference_in(count, periods, capacities, late, r);
         if next <= r {
-            return Found::At(r as usize);
+            return Some(r as usize);
         }
         r = next;
     }
-    Found::Nothing
+    None
 }
 
 // The response of a server in a mode.
-fn response(t: Table, row: usize, m: Mode) -> Found
+fn response(t: Table, row: usize, m: Mode) -> Option<usize>
     requires { (table_keeps t ≡ true) × (row < t.nservers) }
     ensures { result ≡ response_at t m row }
 {
@@ -154,7 +153,7 @@ fn response(t: Table, row: usize, m: Mode) -> Found
     let capacity = table::in_mode(c, m).0;
     let period = s.period.0;
     if capacity == 0 {
-        return Found::At(0);
+        return Some(0);
     }
     let h = higher_than(t, row, m);
     climb(
@@ -173,8 +172,8 @@ fn verdict_in(t: Table, row: usize, m: Mode) -> Verdict
     ensures { result ≡ verdict_of t row m }
 {
     match response(t, row, m) {
-        Found::At(r) => Verdict::Response(Ticks(r as u32)),
-        Found::Nothing => Verdict::Misses,
+        Some(r) => Verdict::Response(Ticks(r as u32)),
+        None => Verdict::Misses,
     }
 }
 
@@ -231,18 +230,18 @@ pub fn verdicts_of(t: Table) -> [RowVerdicts; SERVERS]
 }
 
 // The least row that misses in a mode; none after it is looked at.
-fn least_row(t: Table, m: Mode) -> Found
+fn least_row(t: Table, m: Mode) -> Option<usize>
     requires { table_keeps t ≡ true }
     ensures { result ≡ least_row (verdicts_of t) m }
 {
     let n = t.nservers;
     for row in 0..n {
         let f = response(t, row, m);
-        if let Found::Nothing = f {
-            return Found::At(row);
+        if let None = f {
+            return Some(row);
         }
     }
-    Found::Nothing
+    None
 }
 
 // Whether a table fits: nothing is worked out past the first miss.
@@ -255,7 +254,7 @@ pub fn fits_of(t: Table) -> Fits
     for k in 0..MODES {
         let m = table::mode_said(k as u64);
         let f = least_row(t, m);
-        if let Found::At(row) = f {
+        if let Some(row) = f {
             return Fits::Miss { mode: m, row };
         }
     }

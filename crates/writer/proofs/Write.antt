@@ -1,5 +1,6 @@
 -- The text of a table as the writer makes it, row by row, and what it leaves in the lent room.
 -- Assumes nothing.
+use Rattle.std.proofs.Common.{Ok}
 use mathlib.Core.Path.{◌≡◌, refl, sym, ap}
 use mathlib.Core.Bool.{true, false, ◌&&◌}
 use mathlib.Core.List.{List, [], ◌∷◌, ◌++◌, map, map-append, append-nil, append_assoc}
@@ -23,7 +24,6 @@ use Rattle.table.specs.Rules.{keeps, table_keeps}
 use Rattle.table.proofs.Rules.{rows_keep}
 use Rattle.text.specs.declared.Line.{Line}
 use Rattle.text.specs.declared.Line.TheVariants.{OfTick, OfServer, OfTask}
-use Rattle.text.specs.declared.Writing.TheVariants.{Written}
 use Rattle.text.specs.Line.{write_line}
 use Rattle.text.specs.Write.{server_back, task_back, server_lines, task_lines, lines_of, write, unwritten, wrote}
 use Rattle.text.proofs.Allowed.{keeps_rows}
@@ -145,7 +145,7 @@ wrote_short t room e m h = rw (e, lt-leb (length (write (rows_of t))) (length ro
 
 pub wrote_all : (t : Table) → table_keeps t ≡ true → {n : ℕ} → n ≡ length (write (rows_of t)) → {x : List ℕ} →
     x ≡ write (rows_of t) → {room : List ℕ} →
-    n ≤ length room → {left : List ℕ} {r : ℕ} → Put x room 0 left r → record { answer = Written n; room = left } ≡ wrote t room
+    n ≤ length room → {left : List ℕ} {r : ℕ} → Put x room 0 left r → record { answer = Ok n; room = left } ≡ wrote t room
 unfolding wrote
 wrote_all t e m q {room} h p =
     let y = write (rows_of t) in

@@ -16,7 +16,7 @@ ghost use Rattle.text.specs.Write.{in_micros, times_back, phase_back, server_bac
 
 use decimal::put::{put_all, put_byte, put_number};
 use table::{ByMode, Kind, Level, Refusal, Server, Table, Task};
-use text::{LONGEST_TEXT, LastField, Writing};
+use text::LONGEST_TEXT;
 use units::{Micros, Ticks};
 
 // "text holds microseconds, a run holds ticks"
@@ -28,15 +28,15 @@ fn in_micros(x: Ticks, tick: Micros) -> Micros
 }
 
 // At phase 0 "the writer then leaves the field out".
-fn phase_back(x: Ticks, tick: Micros) -> LastField
+fn phase_back(x: Ticks, tick: Micros) -> Option<Micros>
     requires { tick.0 ≤ 10000 }
     ensures { result ≡ phase_back tick.0 x }
 {
     if x.0 == 0 {
-        return LastField::Absent;
+        return None;
     }
     let u = in_micros(x, tick);
-    LastField::Given(u)
+    Some(u)
 }
 
 // A number and the tab after it.
@@ -89,12 +89,12 @@ fn put_times(x: ByMode, tick: Micros, room: &mut [u8], at: usize) -> usize
 }
 
 // Behind the fields before it: a tab and the last field, or nothing where it is absent.
-fn put_last(last: LastField, room: &mut [u8], at: usize) -> usize
+fn put_last(last: Option<Micros>, room: &mut [u8], at: usize) -> usize
     ensures { Put (join tab ([] ∷ last_fields last)) room.old at room.new result }
 {
     match last {
-        LastField::Absent => at,
-        LastField::Given(u) => {
+        None => at,
+        Some(u) => {
             let k = put_byte(b'\t', room, at);
             put_number(u.0, room, k)
         }
@@ -181,17 +181,17 @@ fn put_table(t: Table, room: &mut [u8]) -> usize
 
 // "Others: 13 first"; 12, "lent room shorter than the text": the text is made in a room of its own,
 // so that a refused writer leaves the lent room as it was.
-pub fn write_table(t: Table, room: &mut [u8]) -> Writing
+pub fn write_table(t: Table, room: &mut [u8]) -> Result<usize, Refusal>
     ensures { record { answer = result; room = room.new } ≡ wrote t room.old }
 {
     if !table::table_keeps(t) {
-        return Writing::Refused(Refusal::Unsound);
+        return Err(Refusal::Unsound);
     }
     let mut text = [0u8; LONGEST_TEXT];
     let many = put_table(t, &mut text);
     if room.len() < many {
-        return Writing::Refused(Refusal::RoomShort);
+        return Err(Refusal::RoomShort);
     }
     put_all(&text[..many], room, 0);
-    Writing::Written(many)
+    Ok(many)
 }

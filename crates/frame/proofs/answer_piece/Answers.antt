@@ -1,12 +1,12 @@
 -- `frame::answer_piece` meets its contract: batch by batch, the bytes before stand answered (crate
 -- lines, proofs/Pieces.antt). Assumes nothing.
+use Rattle.std.proofs.Common.{Option}
 use mathlib.Core.Path.{◌≡◌, refl, ap}
 use mathlib.Core.Bool.{true}
 use mathlib.Core.List.{List, ◌++◌}
 use Prim.Native.Nat.{◌+◌, ◌*◌, ◌-◌, ◌≤◌, ◌<◌}
 use lib.ListN.{length, take, drop}
 use native.Mathlib.Omega.{arith}
-use Rattle.events.specs.declared.EventLine.{EventLine}
 use Rattle.framerun.specs.Sound.{frame_sound}
 use Rattle.framerun.specs.Events.{frame_box}
 use Rattle.events.specs.Boxes.{after_lines_in}
@@ -16,16 +16,17 @@ use Rattle.frameserving.specs.Buffer.{service_of}
 use borrow.Author.Rules.{rules}
 use Rattle.frame.proofs.answer_piece.Goals as goal
 use Rattle.frame.proofs.answer_piece.Goals.{After-serve-s, Start}
+use Rattle.events.specs.declared.Event.{Event}
 
 shaped : (c : Start) → FrameShaped c.args.n.run
 shaped c = record { table = record { tasks = search rules }; state = record { waiting = search rules; runs = search rules } }
 
 -- so it stays sound over lines
-keeps : (c : Start) (ls : List EventLine) → frame_sound (after_lines_in frame_box c.args.n.run ls) ≡ true
+keeps : (c : Start) (ls : List (Option Event)) → frame_sound (after_lines_in frame_box c.args.n.run ls) ≡ true
 keeps c ls = (frame_lines_keep c.args.n.run ls (shaped c) c.requires.night_ready.sound).1
 
 -- after a batch
-served : (c : After-serve-s) → ((ls : List EventLine) → frame_sound (after_lines_in frame_box c.args.n.run ls) ≡ true) →
+served : (c : After-serve-s) → ((ls : List (Option Event)) → frame_sound (after_lines_in frame_box c.args.n.run ls) ≡ true) →
     let l = c.loop-at in
     let x = c.serve-s.result in
     let many = l.put + c.smaller_of-most.result * 140 - l.put in

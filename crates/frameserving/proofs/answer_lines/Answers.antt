@@ -19,7 +19,7 @@ use Rattle.lines.proofs.Serving.{Telling, told_sound, told_unsound, printed_text
 use Rattle.lines.proofs.Serving.{cut_unsound, cut_refused, cut_answered}
 use Rattle.frameserving.proofs.Inner.{many_told}
 use Rattle.frameserving.proofs.answer_lines.Goals as goal
-use Rattle.frameserving.proofs.answer_lines.Goals.{After-answer_many-m, In-Taken}
+use Rattle.frameserving.proofs.answer_lines.Goals.{After-answer_many-m, In-Ok}
 
 -- two numbers a line, and there is room for what is told
 half : (xs : List ℕ) (m : ℕ) → Fit xs m → length xs / 2 ≡ length (lines_said xs)
@@ -48,19 +48,19 @@ returns-in_default c =
     (ap is_taken c.in_default.is))
 
 -- a box that answered is sound
-is_sound : (c : In-Taken) → frame_sound c.args.r ≡ true
+is_sound : (c : In-Ok) → frame_sound c.args.r ≡ true
 unfolding batch
 is_sound c =
     let a = c.args in
     let m = c.answer_many-m in
     told_sound frame_box a.r (lines_said a.lines.now) _ _ _ (many_told a.r a.lines.now (replicate (9 * batch) 0)
-    (fits a.lines.now _ c.requires) m.result m.new.told m.ensures) c.in-Taken.is
+    (fits a.lines.now _ c.requires) m.result m.new.told m.ensures) c.in-Ok.is
 
 pub returns-in_default-cut : goal.returns-in_default-cut
 returns-in_default-cut c =
     let a = c.args in
     ap (λ x. service_of (record { served = x; room = a.room.now })) c.refused-in_default-cut.ensures ∙
-    cut_refused frame_box a.r a.h a.c (lines_said a.lines.now) a.room.now (is_sound (goal.at.returns-in_default-cut c).In-Taken)
+    cut_refused frame_box a.r a.h a.c (lines_said a.lines.now) a.room.now (is_sound (goal.at.returns-in_default-cut c).In-Ok)
     (ap is_taken c.in_default-cut.is)
 
 -- there is as much of it
@@ -83,9 +83,9 @@ returns c =
     let n : 9 * (length a.lines.now / 2) ≡ 9 * length ls = omega (arith, half a.lines.now _ c.requires) in
     let text =
     printed_text frame_box a.r a.lines.now _ a.room.now c.requires
-    (ap (λ k. take k c.answer_many-m.new.told) n ∙ (telling (goal.at.returns c).After-answer_many-m).front (is_sound (goal.at.returns c).In-Taken)) _ _
+    (ap (λ k. take k c.answer_many-m.new.told) n ∙ (telling (goal.at.returns c).After-answer_many-m).front (is_sound (goal.at.returns c).In-Ok)) _ _
     c.print_lines-p.ensures in
-    cut_answered frame_box a.r a.h a.c ls a.room.now (is_sound (goal.at.returns c).In-Taken) c.in-Taken-cut.is _ _ _
-    ((telling (goal.at.returns c).After-answer_many-m).after (is_sound (goal.at.returns c).In-Taken))
+    cut_answered frame_box a.r a.h a.c ls a.room.now (is_sound (goal.at.returns c).In-Ok) c.in-Ok-cut.is _ _ _
+    ((telling (goal.at.returns c).After-answer_many-m).after (is_sound (goal.at.returns c).In-Ok))
     text.0
     text.1

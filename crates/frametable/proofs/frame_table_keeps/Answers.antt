@@ -24,11 +24,11 @@ returns-then-not-is_within c =
 pub frame_tasks_keep-rows-requires : goal.frame_tasks_keep-rows-requires
 frame_tasks_keep-rows-requires c = within_high 1 64 _ (count_held (goal.at.frame_tasks_keep-rows-requires c).Else-not-is_within)
 
-pub returns-in-Equal : goal.returns-in-Equal
-returns-in-Equal c =
-    equal_pair c.args.t (whole (goal.at.returns-in-Equal c).Start) (count_held (goal.at.returns-in-Equal c).Else-not-is_within) _ _ (sym c.equal_frame_tasks.ensures ∙ c.in-Equal.is)
+pub returns-in-Some : goal.returns-in-Some
+returns-in-Some c =
+    equal_pair c.args.t (whole (goal.at.returns-in-Some c).Start) (count_held (goal.at.returns-in-Some c).Else-not-is_within) _ _ (sym c.equal_frame_tasks.ensures ∙ c.in-Some.is)
 
-pub returns-in-Differ : goal.returns-in-Differ
-returns-in-Differ c =
-    cc (no_pair c.args.t (whole (goal.at.returns-in-Differ c).Start) (count_held (goal.at.returns-in-Differ c).Else-not-is_within)
-    (sym c.equal_frame_tasks.ensures ∙ c.in-Differ.is))
+pub returns-in-None : goal.returns-in-None
+returns-in-None c =
+    cc (no_pair c.args.t (whole (goal.at.returns-in-None c).Start) (count_held (goal.at.returns-in-None c).Else-not-is_within)
+    (sym c.equal_frame_tasks.ensures ∙ c.in-None.is))

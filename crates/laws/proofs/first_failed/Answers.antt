@@ -9,18 +9,18 @@ use Rattle.laws.proofs.first_failed.Goals as goal
 pub loop-i-init : goal.loop-i-init
 loop-i-init c = (search rules, λ k h. absurd (omega arith))
 
-pub returns-then-not-b-i : goal.returns-then-not-b-i
-returns-then-not-b-i c =
+pub returns-then-not-holds : goal.returns-then-not-holds
+returns-then-not-holds c =
     fails_first
     c.args.b.now
     c.loop-i.i
     (search rules)
     c.loop-i.invariant.1
-    c.if-not-b-i.true
+    c.if-not-holds.true
 
 pub loop-i-preserved : goal.loop-i-preserved
 loop-i-preserved c =
-    (search rules, below_more _ _ c.loop-i.invariant.1 c.if-not-b-i.false)
+    (search rules, below_more _ _ c.loop-i.invariant.1 c.if-not-holds.false)
 
 pub returns : goal.returns
 returns c =

@@ -1,12 +1,12 @@
 -- `night::answer_piece` meets its contract: batch by batch, the bytes before stand answered (crate
 -- lines, proofs/Pieces.antt). Assumes nothing.
+use Rattle.std.proofs.Common.{Option}
 use mathlib.Core.Path.{◌≡◌, refl, ap}
 use mathlib.Core.Bool.{true}
 use mathlib.Core.List.{List, ◌++◌}
 use Prim.Native.Nat.{◌+◌, ◌*◌, ◌-◌, ◌≤◌, ◌<◌}
 use lib.ListN.{length, take, drop}
 use native.Mathlib.Omega.{arith}
-use Rattle.events.specs.declared.EventLine.{EventLine}
 use Rattle.run.specs.Sound.{sound}
 use Rattle.run.specs.Events.{the_box}
 use Rattle.run.specs.Many.{after_lines}
@@ -17,6 +17,7 @@ use Rattle.serving.specs.Buffer.{service_of}
 use borrow.Author.Rules.{rules}
 use Rattle.night.proofs.answer_piece.Goals as goal
 use Rattle.night.proofs.answer_piece.Goals.{After-serve-s, Start}
+use Rattle.events.specs.declared.Event.{Event}
 
 shaped : (c : Start) → RunShaped c.args.n.run
 shaped c =
@@ -26,11 +27,11 @@ shaped c =
     }
 
 -- so it stays sound over lines
-keeps : (c : Start) (ls : List EventLine) → sound (after_lines c.args.n.run ls) ≡ true
+keeps : (c : Start) (ls : List (Option Event)) → sound (after_lines c.args.n.run ls) ≡ true
 keeps c ls = (lines_keep c.args.n.run ls (shaped c) c.requires.night_ready.sound).1
 
 -- after a batch
-served : (c : After-serve-s) → ((ls : List EventLine) → sound (after_lines c.args.n.run ls) ≡ true) →
+served : (c : After-serve-s) → ((ls : List (Option Event)) → sound (after_lines c.args.n.run ls) ≡ true) →
     let l = c.loop-at in
     let x = c.serve-s.result in
     let many = l.put + c.smaller_of-most.result * 140 - l.put in

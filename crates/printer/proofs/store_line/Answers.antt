@@ -4,17 +4,17 @@ use native.Mathlib.Omega.{arith}
 use Rattle.printer.proofs.Inner.{at_most, then}
 use Rattle.printer.proofs.store_line.Goals as goal
 
-pub returns-in-Another : goal.returns-in-Another
-returns-in-Another c =
-    rw (← c.line_said-l.ensures, c.in-Another.is)
+pub returns-in-None : goal.returns-in-None
+returns-in-None c =
+    rw (← c.line_said-l.ensures, c.in-None.is)
     (at_most (then c.store_byte-a.ensures c.store_outcome.ensures) (omega arith))
 
 pub returns-in-Tick : goal.returns-in-Tick
 returns-in-Tick c =
-    rw (← c.line_said-l.ensures, c.in-Of.is, c.in-Tick.is)
+    rw (← c.line_said-l.ensures, c.in-Some.is, c.in-Tick.is)
     (at_most (then c.store_byte-a-in-Tick.ensures c.store_outcome-in-Tick.ensures) (omega arith))
 
 pub returns-in-Release : goal.returns-in-Release
 returns-in-Release c =
-    rw (← c.line_said-l.ensures, c.in-Of.is, c.in-Release.is)
+    rw (← c.line_said-l.ensures, c.in-Some.is, c.in-Release.is)
     (then (then c.store_byte-a-in-Release.ensures c.store_field-b.ensures) c.store_outcome-in-Release.ensures)

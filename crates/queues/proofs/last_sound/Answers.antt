@@ -11,9 +11,9 @@ lent c = record { waiting = c.args.waiting; runs = c.args.runs }
 
 pub returns-then-n-k : goal.returns-then-n-k
 returns-then-n-k c =
-    last_absent c.args.n (lent (goal.at.returns-then-n-k c).Start) c.args.ticks _ _ c.in-Job.is c.if-n-k.true
+    last_absent c.args.n (lent (goal.at.returns-then-n-k c).Start) c.args.ticks _ _ c.in-Some.is c.if-n-k.true
 
 pub returns-then-k-ge-TASKS : goal.returns-then-k-ge-TASKS
 returns-then-k-ge-TASKS c =
-    last_past c.args.n (lent (goal.at.returns-then-k-ge-TASKS c).Start) c.args.ticks _ _ c.in-Job.is c.if-n-k.false
+    last_past c.args.n (lent (goal.at.returns-then-k-ge-TASKS c).Start) c.args.ticks _ _ c.in-Some.is c.if-n-k.false
     (omega arith)

@@ -1,7 +1,7 @@
 -- One pass over the fields of a line: what it finds field by field is the first that is not as it
 -- should be, 0 for their count, and the number of each. By induction over the fields, with what is
 -- expected of each. Assumes nothing.
-use Rattle.std.specs.Prelude.{if◌then◌else◌}
+use Rattle.std.specs.Prelude.{if◌then◌else◌, None, Option, Some}
 use mathlib.Core.Path.{◌≡◌, refl, ap, ◌∙◌}
 use mathlib.Core.Bool.{Bool, true, false, ◌||◌}
 use mathlib.Core.List.{List, [], ◌∷◌, map}
@@ -13,14 +13,10 @@ use lib.Dec.{ltb}
 use lib.ListN.{length, get_or, take, drop, set, length-set, drop_of_length-le}
 use lib.Seq.{drop-cons, get_or-set_same, get_or-set_other}
 use borrow.Author.Tests.{ltb-true, ltb-false, lt-leb}
-use Rattle.laws.specs.declared.Found.{Found}
-use Rattle.laws.specs.declared.Found.TheVariants.{At, Nothing}
 use Rattle.laws.specs.Choice.{every, within}
 use Rattle.laws.specs.Search.{first_failed}
 use Rattle.laws.proofs.Choice.{and_left, and_right, if_ind, or_true_left, or_true_right, within_high, is_within}
 use Rattle.laws.proofs.Search.{failed_none, failed_empty, failed_here, one_past, failed_past}
-use Rattle.decimal.specs.declared.Number.{Number}
-use Rattle.decimal.specs.declared.Number.TheVariants.{Value, Bad}
 use Rattle.decimal.specs.Number.{read_number}
 use Rattle.decimal.specs.declared.End.{End}
 use Rattle.decimal.specs.declared.Field.{Field}
@@ -39,55 +35,55 @@ pub number_field_lem : (text : List ℕ) (at : ℕ) → field_from text at ≡ f
 unfolding field_from field_as read_number read_field
 number_field_lem text at = refl
 
-pub word_field : (x : Expected) (text : List ℕ) (at : ℕ) (n : Number) (e : End) → e ≡ field_end text at →
+pub word_field : (x : Expected) (text : List ℕ) (at : ℕ) (n : Option ℕ) (e : End) → e ≡ field_end text at →
     n ≡ read_field x (take (e.at - at) (drop at text)) → record { number = n; end = e } ≡ field_as x text at
 unfolding field_as
 word_field x text at n e q r = rw (r, q, end_taken text at)
 
 module _ (f : List ℕ) where
-  pub kind_timed : same f timed_word ≡ true → Value 1 ≡ read_field a_kind f
+  pub kind_timed : same f timed_word ≡ true → Some 1 ≡ read_field a_kind f
   unfolding read_field
   kind_timed e = rw (or_true_right (same f event_word) (same f timed_word) e, e)
 
-  pub kind_event : same f timed_word ≡ false → same f event_word ≡ true → Value 0 ≡ read_field a_kind f
+  pub kind_event : same f timed_word ≡ false → same f event_word ≡ true → Some 0 ≡ read_field a_kind f
   unfolding read_field
   kind_event t e = rw (e, t)
 
-  pub kind_none : same f timed_word ≡ false → same f event_word ≡ false → Bad ≡ read_field a_kind f
+  pub kind_none : same f timed_word ≡ false → same f event_word ≡ false → None ≡ read_field a_kind f
   unfolding read_field
   kind_none t e = rw (e, t)
 
-  pub level_hi : same f hi_word ≡ true → Value 2 ≡ read_field a_level f
+  pub level_hi : same f hi_word ≡ true → Some 2 ≡ read_field a_level f
   unfolding read_field
   level_hi h =
       let e = or_true_right (same f mi_word) (same f hi_word) h in
       rw (or_true_right (same f lo_word) (same f mi_word || same f hi_word) e, h)
 
-  pub level_mi : same f hi_word ≡ false → same f mi_word ≡ true → Value 1 ≡ read_field a_level f
+  pub level_mi : same f hi_word ≡ false → same f mi_word ≡ true → Some 1 ≡ read_field a_level f
   unfolding read_field
   level_mi h m =
       let e = or_true_left (same f mi_word) (same f hi_word) m in
       rw (or_true_right (same f lo_word) (same f mi_word || same f hi_word) e, h, m)
 
   pub level_lo : same f hi_word ≡ false → same f mi_word ≡ false → same f lo_word ≡ true →
-      Value 0 ≡ read_field a_level f
+      Some 0 ≡ read_field a_level f
   unfolding read_field
   level_lo h m l = rw (l, h, m)
 
   pub level_none : same f hi_word ≡ false → same f mi_word ≡ false → same f lo_word ≡ false →
-      Bad ≡ read_field a_level f
+      None ≡ read_field a_level f
   unfolding read_field
   level_none h m l = rw (l, h, m)
 
-read_fits : (e : Expected) (f : List ℕ) → fits e f ≡ true → read_field e f ≡ Value (value_of e f)
+read_fits : (e : Expected) (f : List ℕ) → fits e f ≡ true → read_field e f ≡ Some (value_of e f)
 unfolding read_field
 read_fits e f h = rw h
 
-read_not : (e : Expected) (f : List ℕ) → fits e f ≡ false → read_field e f ≡ Bad
+read_not : (e : Expected) (f : List ℕ) → fits e f ≡ false → read_field e f ≡ None
 unfolding read_field
 read_not e f h = rw h
 
-pub noted_by : (r : Fields) (k : ℕ) (n : Number) (w : Found) (v : ℕ) → w ≡ first_wrong r.wrong n (k + 1) →
+pub noted_by : (r : Fields) (k : ℕ) (n : Option ℕ) (w : Option ℕ) (v : ℕ) → w ≡ first_wrong r.wrong n (k + 1) →
     v ≡ value_in n → record { wrong = w; values = set r.values k v; count = k + 1; end = r.end } ≡ noted r k n
 noted_by r k n w v e f = rw (e, f)
 
@@ -100,7 +96,7 @@ step least e es k r f [] h = absurd (omega arith)
 step least e es k r f (g ∷ fs) h = refl
 
 over : (least k : ℕ) (r : Fields) (fs : List (List ℕ)) → 0 < length fs →
-    telling (At 0) r ≡ passed least [] k r fs
+    telling (Some 0) r ≡ passed least [] k r fs
 unfolding passed
 over least k r [] h = absurd (omega arith)
 over least k r (f ∷ fs) h = refl
@@ -148,43 +144,43 @@ module _ (least : ℕ) (text shape : List ℕ) (k at : ℕ) (r : Fields) where
     line_last m = rw end_read (field_last text at (rw end_read at m)).1
 
   pub pass_over : length shape ≤ k →
-      telling (At 0) r ≡ passed least (map expected_of (drop k shape)) k r (fields_from text at)
+      telling (Some 0) r ≡ passed least (map expected_of (drop k shape)) k r (fields_from text at)
   pass_over h =
       rw (drop_of_length-le shape h)
       (over least k r (fields_from text at) (split_some tab (first_line (drop at text))))
 
 -- a place among the tests from field k on, as a field
-abbrev from : ℕ → Found → Found
-from k (At j) = At (k + j)
-from k Nothing = Nothing
+abbrev from : ℕ → Option ℕ → Option ℕ
+from k (Some j) = Some (k + j)
+from k None = None
 
-from_start : (x : Found) → from 0 x ≡ x
-from_start (At j) = rw (zero-add j)
-from_start Nothing = refl
+from_start : (x : Option ℕ) → from 0 x ≡ x
+from_start (Some j) = rw (zero-add j)
+from_start None = refl
 
-from_here : (k : ℕ) (bs : List Bool) → At k ≡ from k (first_failed (false ∷ bs))
+from_here : (k : ℕ) (bs : List Bool) → Some k ≡ from k (first_failed (false ∷ bs))
 from_here k bs = rw (failed_here bs, add-zero k)
 
-from_past : (k : ℕ) (x : Found) → from (k + 1) x ≡ from k (one_past x)
-from_past k (At j) = let q : k + 1 + j ≡ k + suc j = omega arith in rw q
-from_past k Nothing = refl
+from_past : (k : ℕ) (x : Option ℕ) → from (k + 1) x ≡ from k (one_past x)
+from_past k (Some j) = let q : k + 1 + j ≡ k + suc j = omega arith in rw q
+from_past k None = refl
 
 from_next : (k : ℕ) (bs : List Bool) →
     from (k + 1) (first_failed bs) ≡ from k (first_failed (true ∷ bs))
 from_next k bs = rw (failed_past bs) (from_past k (first_failed bs))
 
 -- what is told of the fields before k, and else of those from there on
-abbrev or_else : Found → Found → Found
-or_else (At j) g = At j
-or_else Nothing g = g
+abbrev or_else : Option ℕ → Option ℕ → Option ℕ
+or_else (Some j) g = Some j
+or_else None g = g
 
-or_none : (w : Found) (k : ℕ) → w ≡ or_else w (from k (first_failed []))
-or_none (At j) k = refl
-or_none Nothing k = rw failed_empty
+or_none : (w : Option ℕ) (k : ℕ) → w ≡ or_else w (from k (first_failed []))
+or_none (Some j) k = refl
+or_none None k = rw failed_empty
 
-or_first : (w : Found) (k : ℕ) (g : Found) → or_else (first_wrong w Bad k) g ≡ or_else w (At k)
-or_first (At j) k g = refl
-or_first Nothing k g = refl
+or_first : (w : Option ℕ) (k : ℕ) (g : Option ℕ) → or_else (first_wrong w None k) g ≡ or_else w (Some k)
+or_first (Some j) k g = refl
+or_first None k g = refl
 
 -- one field more, and bs the tests of those after it
 noted_told : (r : Fields) (k : ℕ) (e : Expected) (f : List ℕ) (bs : List Bool) →
@@ -202,18 +198,18 @@ noted_told r k e f bs = go (fits e f) refl
         ∙ ap (or_else r.wrong) (from_here (k + 1) bs))
 
 -- n fields where there should be from `least` to m: that is told before any field
-abbrev told : ℕ → ℕ → ℕ → Found → Found
-told least m n w = if within least m n then w else At 0
+abbrev told : ℕ → ℕ → ℕ → Option ℕ → Option ℕ
+told least m n w = if within least m n then w else Some 0
 
-too_many : (least m n : ℕ) (w : Found) → m < n → At 0 ≡ told least m n w
+too_many : (least m n : ℕ) (w : Option ℕ) → m < n → Some 0 ≡ told least m n w
 too_many least m n w h =
-    if_ind (λ x. At 0 ≡ x) (within least m n)
+    if_ind (λ x. Some 0 ≡ x) (within least m n)
     (λ e. absurd (omega (arith, within_high least m n e))) (λ e. refl)
 
-counted_told : (least m n : ℕ) (w : Found) → n ≤ m → counted least n w ≡ told least m n w
+counted_told : (least m n : ℕ) (w : Option ℕ) → n ≤ m → counted least n w ≡ told least m n w
 counted_told least m n w h = go (ltb n least) refl
   where
-    go : (b : Bool) → ltb n least ≡ b → (if b then At 0 else w) ≡ told least m n w
+    go : (b : Bool) → ltb n least ≡ b → (if b then Some 0 else w) ≡ told least m n w
     go true p = rw (lt-leb least n (ltb-true n least p))
     go false p = rw (is_within least m n (ltb-false n least p) h)
 
@@ -313,11 +309,11 @@ module _ (form : Form) (fs : List (List ℕ)) (end : ℕ) where
       ∙ go (within form.least (length form.fields) (length fs)) (field_tests form.fields fs)
     where
       go : (b : Bool) (bs : List Bool) →
-          (if b then from 1 (first_failed bs) else At 0) ≡ first_failed (b ∷ bs)
+          (if b then from 1 (first_failed bs) else Some 0) ≡ first_failed (b ∷ bs)
       go true bs = from_next 0 bs ∙ from_start (first_failed (true ∷ bs))
       go false bs = from_here 0 bs ∙ from_start (first_failed (false ∷ bs))
 
-  pub pass_values : first_failed (form_tests form fs) ≡ Nothing → length form.fields ≤ 8 →
+  pub pass_values : first_failed (form_tests form fs) ≡ None → length form.fields ≤ 8 →
       (i : ℕ) → i < length fs →
       get_or (passed form.least form.fields 0 (no_fields end) fs).values i 0 ≡
       value_of (get_or form.fields i a_number) (get_or fs i [])
@@ -330,7 +326,7 @@ module _ (form : Form) (fs : List (List ℕ)) (end : ℕ) where
       (pass_value form.least form.fields 0 (no_fields end) fs (and_right c t a) (form_count form fs a).1
       (omega arith) i h)
 
-  pub pass_many : first_failed (form_tests form fs) ≡ Nothing → 0 < length fs →
+  pub pass_many : first_failed (form_tests form fs) ≡ None → 0 < length fs →
       (passed form.least form.fields 0 (no_fields end) fs).count ≡ length fs
   pass_many w h =
       let a = (failed_none (form_tests form fs)).0 w in

@@ -1,11 +1,7 @@
 -- Only contracts of inner functions cite this file; a buyer need not read it. It says what one pass
 -- over the fields of a line finds: the first field that is not as it should be, the number of each,
 -- how many there are, and where the line ends.
-use Rattle.std.specs.Prelude.{List, [], ◌∷◌, map, ℕ, ◌+◌, ltb, eqb, length, drop, set, replicate, if◌then◌else◌}
-use Rattle.laws.specs.declared.Found.{Found}
-use Rattle.laws.specs.declared.Found.TheVariants.{At, Nothing}
-use Rattle.decimal.specs.declared.Number.{Number}
-use Rattle.decimal.specs.declared.Number.TheVariants.{Value, Bad}
+use Rattle.std.specs.Prelude.{List, [], ◌∷◌, map, ℕ, ◌+◌, ltb, eqb, length, drop, set, replicate, if◌then◌else◌, None, Option, Some}
 use Rattle.decimal.specs.Number.{worth}
 use Rattle.decimal.specs.declared.Field.{Field}
 use Rattle.decimal.specs.Lines.{same}
@@ -14,11 +10,10 @@ use Rattle.table.specs.declared.Kind.{Kind}
 use Rattle.table.specs.declared.Kind.TheVariants.{Event, Timed}
 use Rattle.table.specs.declared.Level.{Level}
 use Rattle.table.specs.declared.Level.TheVariants.{LO, MI, HI}
-use Rattle.text.specs.declared.LastField.{LastField}
-use Rattle.text.specs.declared.LastField.TheVariants.{Absent, Given}
 use Rattle.text.specs.Words.{timed_word, mi_word, hi_word}
 use Rattle.text.specs.Line.{Expected, a_number, a_kind, a_level, fits}
 use Rattle.reader.specs.declared.fields.Fields.{Fields}
+use Rattle.units.specs.declared.Micros.{Micros}
 
 -- what a letter of a shape stands for: `n` a number, `k` a kind, `l` a level
 abbrev pub expected_of : ℕ → Expected
@@ -38,11 +33,11 @@ abbrev pub level_at : ℕ → Level
 level_at v = if eqb v 2 then HI else if eqb v 1 then MI else LO
 
 -- field k, the last of its form, of a line of so many fields; its number is v
-abbrev pub last_of : ℕ → ℕ → ℕ → LastField
-last_of count k v = if ltb count k then Absent else Given (record { 0 = v })
+abbrev pub last_of : ℕ → ℕ → ℕ → Option Micros
+last_of count k v = if ltb count k then None else Some (record { 0 = v })
 
-unfoldable pub read_field : Expected → List ℕ → Number
-read_field e f = if fits e f then Value (value_of e f) else Bad
+unfoldable pub read_field : Expected → List ℕ → Option ℕ
+read_field e f = if fits e f then Some (value_of e f) else None
 
 -- the field that begins at a place of a text, read so
 unfoldable pub field_as : Expected → List ℕ → ℕ → Field
@@ -53,21 +48,21 @@ abbrev pub line_end : List ℕ → ℕ → ℕ
 line_end text at = at + length (first_line (drop at text))
 
 -- the first place that is told, field k being as it was read
-abbrev pub first_wrong : Found → Number → ℕ → Found
-first_wrong wrong (Value v) k = wrong
-first_wrong (At j) Bad k = At j
-first_wrong Nothing Bad k = At k
+abbrev pub first_wrong : Option ℕ → Option ℕ → ℕ → Option ℕ
+first_wrong wrong (Some v) k = wrong
+first_wrong (Some j) None k = Some j
+first_wrong None None k = Some k
 
-abbrev pub value_in : Number → ℕ
-value_in (Value v) = v
-value_in Bad = 0
+abbrev pub value_in : Option ℕ → ℕ
+value_in (Some v) = v
+value_in None = 0
 
 -- nothing is told yet of a line that ends at a place
 abbrev pub no_fields : ℕ → Fields
-no_fields end = record { wrong = Nothing; values = replicate 8 0; count = 0; end = end }
+no_fields end = record { wrong = None; values = replicate 8 0; count = 0; end = end }
 
 -- with field k, from 0, as it was read
-abbrev pub noted : Fields → ℕ → Number → Fields
+abbrev pub noted : Fields → ℕ → Option ℕ → Fields
 noted r k n =
     record {
       wrong = first_wrong r.wrong n (k + 1);
@@ -77,18 +72,18 @@ noted r k n =
     }
 
 -- the line ends after n fields: too few are told before any field
-abbrev pub counted : ℕ → ℕ → Found → Found
-counted least n wrong = if ltb n least then At 0 else wrong
+abbrev pub counted : ℕ → ℕ → Option ℕ → Option ℕ
+counted least n wrong = if ltb n least then Some 0 else wrong
 
 -- another place told, and all else as it was
-abbrev pub telling : Found → Fields → Fields
+abbrev pub telling : Option ℕ → Fields → Fields
 telling wrong r = record { wrong = wrong; values = r.values; count = r.count; end = r.end }
 
 -- From field k on, r being what the fields before it gave; too many are told before any field.
 -- (There is always a field.)
 unfoldable pub passed : ℕ → List Expected → ℕ → Fields → List (List ℕ) → Fields
 passed least es k r [] = r
-passed least [] k r (f ∷ fs) = telling (At 0) r
+passed least [] k r (f ∷ fs) = telling (Some 0) r
 passed least (e ∷ es) k r (f ∷ []) =
     let q = noted r k (read_field e f) in telling (counted least (k + 1) q.wrong) q
 passed least (e ∷ es) k r (f ∷ (g ∷ fs)) = passed least es (k + 1) (noted r k (read_field e f)) (g ∷ fs)

@@ -3,14 +3,14 @@ use mathlib.Core.Path.{sym, ap}
 use Rattle.rewrite.proofs.Rewritten.{many, front}
 use Rattle.rewrite.proofs.text_of.Goals as goal
 
-pub returns-in-Written : goal.returns-in-Written
-returns-in-Written c =
+pub returns-in-Ok : goal.returns-in-Ok
+returns-in-Ok c =
     let w = c.write_table in
     front c.args.t c.args.room.now c.requires w.result w.new.room w.ensures _
-    (sym (ap many c.in-Written.is))
+    (sym (ap many c.in-Ok.is))
 
-pub returns-in-Refused : goal.returns-in-Refused
-returns-in-Refused c =
+pub returns-in-Err : goal.returns-in-Err
+returns-in-Err c =
     let w = c.write_table in
     front c.args.t c.args.room.now c.requires w.result w.new.room w.ensures 0
-    (sym (ap many c.in-Refused.is))
+    (sym (ap many c.in-Err.is))

@@ -1,7 +1,7 @@
 -- The highest marked row, kept as a priority and a row, 0 being nothing found: how a walk over
 -- tasks finds the highest of each server, and a walk over servers the highest that is able.
 -- Priorities of a table are at least 1. Assumes nothing.
-use Rattle.std.specs.Prelude.{if◌then◌else◌}
+use Rattle.std.specs.Prelude.{if◌then◌else◌, Some}
 use mathlib.Core.Path.{◌≡◌, refl, sym, ap, ap₂, subst, ◌∙◌}
 use mathlib.Core.Bool.{Bool, true, false, not, ◌&&◌, ◌||◌}
 use mathlib.Core.List.{List, ◌++◌}
@@ -13,7 +13,6 @@ use lib.Dec.{leb, ltb, eqb}
 use lib.ListN.{length, get_or, set, take, drop, replicate, get_or-replicate, length-take, take-append-drop}
 use lib.Seq.{get_or-set_same, get_or-set_other, get_or-take, length-take-le, ext_get_or}
 use borrow.Author.Tests.{lt-ltb, ltb-true, ltb-false, eq-eqb, ne_eqb}
-use Rattle.laws.specs.declared.Found.TheVariants.{At}
 use Rattle.laws.specs.Rows.{any_below, highest, anew, found_by}
 use Rattle.laws.proofs.Anew.{length_anew, anew_at}
 use Rattle.laws.proofs.Choice.{and_left, and_right, and_true}
@@ -179,7 +178,7 @@ module _ (t : Table) (s : State) where
   says_idle height row p e = rw (← p, e)
 
   module _ (height row : ℕ) (p : found_by height row ≡ highest_able t s) (d : height ≡ 0 → ⊥) where
-    found_row : highest_able t s ≡ At row
+    found_row : highest_able t s ≡ Some row
     found_row = sym p ∙ found_there height row (omega arith)
 
     pub says_turn : (h x : ℕ) → found_by h x ≡ highest_task t s row → turn_of row (found_by h x) ≡ choose t s

@@ -1,5 +1,6 @@
 -- A start, a release and a tick, case by case in the order of their refusals; and what a sound run
 -- says of its parts: the counts that a tick raises fit. Assumes nothing.
+use Rattle.std.proofs.Common.{Err, Ok}
 use mathlib.Core.Path.{◌≡◌, sym, ap, ◌∙◌}
 use mathlib.Core.Bool.{Bool, true, false, not, ◌&&◌, ◌||◌}
 use mathlib.Core.List.{List}
@@ -22,7 +23,6 @@ use Rattle.events.specs.declared.Event.{Event}
 use Rattle.events.specs.declared.Event.TheVariants.{Release, Tick}
 use Rattle.events.specs.declared.Left.{Left}
 use Rattle.run.specs.declared.Run.{Run}
-use Rattle.events.specs.declared.Starting.TheVariants.{Started, Refused}
 use Rattle.run.specs.declared.State.{State}
 use Rattle.events.specs.declared.TickAnswer.{TickAnswer}
 use Rattle.events.specs.declared.Turn.{Turn}
@@ -52,11 +52,11 @@ use Rattle.scheduler.specs.Inner.Events.{SoundRun, FoundAt}
 use Rattle.scheduler.proofs.Inner.Parts.{parts_are}
 
 -- a start
-pub start_taken : (t : Table) → table_keeps t ≡ true → record { answer = Started; run = fresh_run t } ≡ start_of t
+pub start_taken : (t : Table) → table_keeps t ≡ true → record { answer = Ok tt; run = fresh_run t } ≡ start_of t
 unfolding start_of
 start_taken t e = rw e
 
-pub start_unsound : (t : Table) → table_keeps t ≡ false → record { answer = Refused Unsound; run = fresh_run t } ≡ start_of t
+pub start_unsound : (t : Table) → table_keeps t ≡ false → record { answer = Err Unsound; run = fresh_run t } ≡ start_of t
 unfolding start_of
 start_unsound t e = rw e
 

@@ -1,5 +1,6 @@
 -- Many event lines taken one after the other: after i of them the run, what was told and the rest
 -- of the room are what the definition says of the lines so far. Assumes nothing.
+use Rattle.std.proofs.Common.{Ok, Option}
 use mathlib.Core.Path.{◌≡◌, refl, sym, ap, ap₂, subst, ◌∙◌}
 use mathlib.Core.Bool.{true, false}
 use mathlib.Core.List.{List, [], ◌∷◌, ◌++◌}
@@ -12,10 +13,8 @@ use borrow.Author.Tests.{le-leb, lt-leb}
 use Rattle.laws.proofs.Choice.{if_ind}
 use Rattle.table.specs.declared.Table.{Table}
 use Rattle.table.specs.declared.Refusal.TheVariants.{RoomShort, Unsound}
-use Rattle.events.specs.declared.EventLine.{EventLine}
 use Rattle.events.specs.Boxes.{after_lines_in}
 use Rattle.run.specs.declared.Run.{Run}
-use Rattle.events.specs.declared.Taking.TheVariants.{Taken}
 use Rattle.events.specs.declared.Told.{Told}
 use Rattle.events.specs.declared.Told.TheVariants.{No, Released, Ticked}
 use Rattle.run.specs.Events.{the_box}
@@ -35,14 +34,15 @@ use Rattle.scheduler.specs.Inner.Parts.{run_of}
 use Rattle.scheduler.specs.Inner.Events.{SoundRun, FoundAt}
 use Rattle.scheduler.specs.Inner.Many.{Tells, is_tick, Puts}
 use Rattle.scheduler.proofs.Inner.Events.{shaped}
+use Rattle.events.specs.declared.Event.{Event}
 
 -- After i of the lines, from run r: z is the run, and `left` the room.
-abbrev pub Going : Run → List EventLine → List ℕ → Run → List ℕ → ℕ → Type 0
+abbrev pub Going : Run → List (Option Event) → List ℕ → Run → List ℕ → ℕ → Type 0
 Going r ls room z left i = GoingIn the_box r ls room z left i
 
-pub going_end : (r : Run) (ls : List EventLine) (room : List ℕ) (z : Run) (left : List ℕ) (i : ℕ) → i ≡ length ls →
+pub going_end : (r : Run) (ls : List (Option Event)) (room : List ℕ) (z : Run) (left : List ℕ) (i : ℕ) → i ≡ length ls →
     Going r ls room z left i →
-    record { many = record { answer = Taken; run = z }; room = left } ≡ taken r ls room
+    record { many = record { answer = Ok tt; run = z }; room = left } ≡ taken r ls room
 going_end r ls room z left i e g =
     let h = going-end-in the_box r ls room z left i e g in
     rw (h.0, ← h.1)
@@ -59,7 +59,7 @@ found_long : (t : Table) (ms : List TakenTick) (f : List ℕ) → FoundAt t ms f
 found_long t [] f e = ap length e
 found_long t (m ∷ ms) f e = ap length e ∙ found_length t m
 
-pub tells_long : (t : Table) (d : Reply) (u e w c f : List ℕ) (r : Run) (l : EventLine) → Tells t d u e w c f r l →
+pub tells_long : (t : Table) (d : Reply) (u e w c f : List ℕ) (r : Run) (l : Option Event) → Tells t d u e w c f r l →
     length f ≡ 96
 tells_long t d u e w c f r l q = found_long t (ticks_at r l) f q.found
 
@@ -103,11 +103,11 @@ puts_few x seen v f m v' f' n p =
     rw p.ticks (if_ind (λ (k : ℕ). k ≤ m + 1) (is_tick x) (λ e. omega arith) (λ e. omega arith))
 
 -- After i of the lines, among which m ticks are taken.
-pub record Seeking (r : Run) (ls : List EventLine) (v f : List ℕ) (z : Run) (v' f' : List ℕ) (m i : ℕ) : Type 0 where
+pub record Seeking (r : Run) (ls : List (Option Event)) (v f : List ℕ) (z : Run) (v' f' : List ℕ) (m i : ℕ) : Type 0 where
   pub run : after_lines r ls ≡ after_lines z (drop i ls)
   pub kept : Kept r.table (ticks_among r ls) (ticks_among z (drop i ls)) v f v' f' m
 
-pub seeking_start : (r : Run) (ls : List EventLine) (v f : List ℕ) → Seeking r ls v f r v f 0 0
+pub seeking_start : (r : Run) (ls : List (Option Event)) (v f : List ℕ) → Seeking r ls v f r v f 0 0
 seeking_start r ls v f =
     let ms = ticks_among r ls in
     record {
@@ -120,7 +120,7 @@ seeking_start r ls v f =
           };
     }
 
-pub seeking_on : (r : Run) (ls : List EventLine) (v f : List ℕ) (z : Run) (v' f' : List ℕ) (m i : ℕ) (l : EventLine)
+pub seeking_on : (r : Run) (ls : List (Option Event)) (v f : List ℕ) (z : Run) (v' f' : List ℕ) (m i : ℕ) (l : Option Event)
     (y : Run) (x : Told) (seen v'' f'' : List ℕ) (n : ℕ) → 9 * (m + 1) ≤ length v → 96 * (m + 1) ≤ length f →
     drop i ls ≡ l ∷ drop (i + 1) ls → y ≡ after_line z l → x ≡ told_to z l → FoundAt r.table (ticks_at z l) seen →
     Puts x seen v' f' m v'' f'' n → Seeking r ls v f z v' f' m i → Seeking r ls v f y v'' f'' n (i + 1)
@@ -138,9 +138,9 @@ seeking_on r ls v f z v' f' m i l y x seen v'' f'' n b c d q e s p g =
           (subst (λ w. TickTold w (ticks_at z l)) (sym e) (tick_told z l)) s p k);
     }
 
-pub seeking_end : (r : Run) (ls : List EventLine) (v f : List ℕ) (z : Run) (v' f' : List ℕ) (m i : ℕ) →
+pub seeking_end : (r : Run) (ls : List (Option Event)) (v f : List ℕ) (z : Run) (v' f' : List ℕ) (m i : ℕ) →
     i ≡ length ls → Seeking r ls v f z v' f' m i →
-    record { finding = record { answer = Taken; run = z; ticks = m }; told = v'; found = f' } ≡ taken_finding r ls v f
+    record { finding = record { answer = Ok tt; run = z; ticks = m }; told = v'; found = f' } ≡ taken_finding r ls v f
 unfolding after_lines_in ticks_among all_told all_found
 seeking_end r ls v f z v' f' m i e g =
     let d : drop i ls ≡ [] = drop_of_length-le ls {i = i} (omega (arith, e)) in
@@ -151,10 +151,10 @@ seeking_end r ls v f z v' f' m i e g =
     let n : length ms ≡ m = k.ticks ∙ rw d (add-zero m) in
     let p = laid_end 9 (all_told ms) (all_told rest) v v' m (rw d) k.told in
     let q = laid_end 96 (all_found r.table ms) (all_found r.table rest) f f' m (rw d) k.found in
-    rw (u, n) (ap₂ (λ x y. record { finding = record { answer = Taken; run = z; ticks = m }; told = x; found = y }) p q)
+    rw (u, n) (ap₂ (λ x y. record { finding = record { answer = Ok tt; run = z; ticks = m }; told = x; found = y }) p q)
 
 -- A line keeps the run sound, and its parts in their arrays.
-pub line_keeps : (t : Table) (h : Head) (ss ks u e w c : List ℕ) → SoundRun t h ss ks u e w c → (l : EventLine) (d : Reply)
+pub line_keeps : (t : Table) (h : Head) (ss ks u e w c : List ℕ) → SoundRun t h ss ks u e w c → (l : Option Event) (d : Reply)
     (u' e' w' c' f' : List ℕ) → Tells t d u' e' w' c' f' (run_of t h u e w c) l → SoundRun t d.head ss ks u' e' w' c'
 unfolding after_lines_in
 line_keeps t h ss ks u e w c p l d u' e' w' c' f' q =

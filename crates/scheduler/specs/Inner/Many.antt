@@ -1,11 +1,9 @@
 -- Many event lines behind the door, on the parts of a run. `Rattle.run.specs.Many` says what they
 -- do.
-use Rattle.std.specs.Prelude.{◌≡◌, Bool, true, false, List, ℕ, ◌+◌, ◌*◌, if◌then◌else◌}
+use Rattle.std.specs.Prelude.{◌≡◌, Bool, true, false, List, ℕ, ◌+◌, ◌*◌, if◌then◌else◌, Ok, Option}
 use Rattle.std.proofs.Math.Seq.{paste}
 use Rattle.table.specs.declared.Table.{Table}
-use Rattle.events.specs.declared.EventLine.{EventLine}
 use Rattle.run.specs.declared.Run.{Run}
-use Rattle.events.specs.declared.Taking.TheVariants.{Taken}
 use Rattle.events.specs.declared.Told.{Told}
 use Rattle.events.specs.declared.Told.TheVariants.{No, Released, Ticked}
 use Rattle.events.specs.Values.{lines_said, told_values}
@@ -15,15 +13,16 @@ use Rattle.scheduler.specs.declared.many.Passed.{Passed}
 use Rattle.scheduler.specs.declared.many.Reply.{Reply}
 use Rattle.scheduler.specs.Inner.Parts.{run_of, Counts}
 use Rattle.scheduler.specs.Inner.Events.{SoundRun, FoundAt}
+use Rattle.events.specs.declared.Event.{Event}
 
 -- What is told to line l, from run r, what is found at it, and the run after it.
-pub record Tells (t : Table) (d : Reply) (u e w c f : List ℕ) (r : Run) (l : EventLine) : Type 0 where
+pub record Tells (t : Table) (d : Reply) (u e w c f : List ℕ) (r : Run) (l : Option Event) : Type 0 where
   pub counts : Counts t d.head
   pub told : d.told ≡ told_to r l
   pub run : run_of t d.head u e w c ≡ after_line r l
   pub found : FoundAt t (ticks_at r l) f
 
-abbrev pub LineTaken : Head → List ℕ → List ℕ → EventLine → List ℕ → List ℕ → List ℕ → List ℕ → List ℕ → List ℕ → List ℕ →
+abbrev pub LineTaken : Head → List ℕ → List ℕ → Option Event → List ℕ → List ℕ → List ℕ → List ℕ → List ℕ → List ℕ → List ℕ →
     List ℕ → List ℕ → Reply → Type 0
 LineTaken h servers tasks l u e w c u' e' w' c' f' d =
     (t : Table) → SoundRun t h servers tasks u e w c → Tells t d u' e' w' c' f' (run_of t h u e w c) l
@@ -32,7 +31,7 @@ abbrev pub LinesTaken : Head → List ℕ → List ℕ → List ℕ → List ℕ
     List ℕ → List ℕ → Head → List ℕ → Type 0
 LinesTaken h servers tasks lines room u e w c u' e' w' c' r room' =
     (t : Table) → SoundRun t h servers tasks u e w c →
-    record { many = record { answer = Taken; run = run_of t r u' e' w' c' }; room = room' }
+    record { many = record { answer = Ok tt; run = run_of t r u' e' w' c' }; room = room' }
     ≡ taken (run_of t h u e w c) (lines_said lines) room
 
 -- What was told of a tick that is taken, and what was found at it, is put behind that of m ticks before
@@ -52,7 +51,7 @@ abbrev pub LinesFound : Head → List ℕ → List ℕ → List ℕ → List ℕ
 LinesFound h servers tasks lines told found u e w c u' e' w' c' r told' found' =
     (t : Table) → SoundRun t h servers tasks u e w c →
     record {
-      finding = record { answer = Taken; run = run_of t r.head u' e' w' c'; ticks = r.ticks };
+      finding = record { answer = Ok tt; run = run_of t r.head u' e' w' c'; ticks = r.ticks };
       told = told';
       found = found';
     }

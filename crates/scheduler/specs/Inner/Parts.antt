@@ -1,9 +1,7 @@
 -- A run in parts: its table, its head and the counts of its rows.
-use Rattle.std.specs.Prelude.{Bool, ◌≡◌, List, ℕ, if◌then◌else◌}
+use Rattle.std.specs.Prelude.{Bool, ◌≡◌, List, ℕ, if◌then◌else◌, None, Option, Some}
 use Rattle.table.specs.declared.Mode.{Mode}
 use Rattle.table.specs.declared.Table.{Table}
-use Rattle.queues.specs.declared.Last.{Last}
-use Rattle.queues.specs.declared.Last.TheVariants.{NoJob, Job}
 use Rattle.run.specs.declared.State.{State}
 use Rattle.run.specs.declared.Run.{Run}
 use Rattle.run.specs.declared.Answered.{Answered}
@@ -12,12 +10,12 @@ use Rattle.scheduler.specs.declared.parts.Head.{Head}
 use Rattle.scheduler.specs.declared.parts.Step.{Step}
 
 -- The last job, as a head shows it: whether one ran, and of which task, 0 if none.
-abbrev pub last_in : Bool → ℕ → Last
-last_in ran k = if ran then Job k else NoJob
+abbrev pub last_in : Bool → ℕ → Option ℕ
+last_in ran k = if ran then Some k else None
 
-abbrev pub last_task : Last → ℕ
-last_task NoJob = 0
-last_task (Job k) = k
+abbrev pub last_task : Option ℕ → ℕ
+last_task None = 0
+last_task (Some k) = k
 
 abbrev pub state_of : Head → List ℕ → List ℕ → List ℕ → List ℕ → State
 state_of h used elapsed waiting runs =

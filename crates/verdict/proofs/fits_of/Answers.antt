@@ -1,10 +1,10 @@
 -- `verdict::fits_of` meets its contract: before mode k, no row misses in the modes passed. Assumes
 -- nothing.
+use Rattle.std.proofs.Common.{None}
 use mathlib.Core.Path.{◌≡◌, sym, ap, ◌∙◌}
 use mathlib.Core.Bool.{true}
 use native.Mathlib.Omega.{arith}
 use borrow.Author.Count.{below_more}
-use Rattle.laws.specs.declared.Found.TheVariants.{Nothing}
 use Rattle.table.specs.Rules.{table_keeps}
 use Rattle.verdict.specs.Fits.{verdicts_of, least_row}
 use Rattle.verdict.proofs.Fitting.{row_in, fits_unsound, fits_miss, fits_yes}
@@ -32,13 +32,13 @@ loop-k-init c = (omega arith, λ k h. absurd (omega arith))
 pub least_row-f-requires : goal.least_row-f-requires
 least_row-f-requires c = sound (goal.at.least_row-f-requires c).Else-not-table_keeps
 
-pub returns-in-At : goal.returns-in-At
-returns-in-At c =
+pub returns-in-Some : goal.returns-in-Some
+returns-in-Some c =
     rw c.mode_said-m.ensures
-    (fits_miss c.args.t (sound (goal.at.returns-in-At c).Else-not-table_keeps) c.loop-k.k _
+    (fits_miss c.args.t (sound (goal.at.returns-in-Some c).Else-not-table_keeps) c.loop-k.k _
     (record {
       below = omega arith;
-      found = sym (found (goal.at.returns-in-At c).After-least_row-f) ∙ c.in-At.is;
+      found = sym (found (goal.at.returns-in-Some c).After-least_row-f) ∙ c.in-Some.is;
       none_before = c.loop-k.invariant.1;
     }))
 
@@ -46,7 +46,7 @@ pub loop-k-preserved : goal.loop-k-preserved
 loop-k-preserved c =
     let t = c.args.t in (
       omega arith,
-      below_more (λ k. row_in t k ≡ Nothing) c.loop-k.k c.loop-k.invariant.1
+      below_more (λ k. row_in t k ≡ None) c.loop-k.k c.loop-k.invariant.1
           (sym (found (goal.at.loop-k-preserved c).After-least_row-f) ∙ c.in_default.is),
     )
 

@@ -23,21 +23,21 @@ overflow_cast-result c =
       fits =
           omega (
             arith,
-            response_most a.t a.m a.row _ (sym c.response.ensures ∙ c.in-At.is),
+            response_most a.t a.m a.row _ (sym c.response.ensures ∙ c.in-Some.is),
             ((table_rules a.t (size (goal.at.overflow_cast-result c).Start) c.requires.0).server a.row c.requires.1).period_high,
           );
     }
 
-pub returns-in-At : goal.returns-in-At
-returns-in-At c =
+pub returns-in-Some : goal.returns-in-Some
+returns-in-Some c =
     let a = c.args in
     sym
     (verdict_told a.t a.m a.row c.requires.0 c.requires.1
-    ∙ ap told (sym c.response.ensures ∙ c.in-At.is))
+    ∙ ap told (sym c.response.ensures ∙ c.in-Some.is))
 
-pub returns-in-Nothing : goal.returns-in-Nothing
-returns-in-Nothing c =
+pub returns-in-None : goal.returns-in-None
+returns-in-None c =
     let a = c.args in
     sym
     (verdict_told a.t a.m a.row c.requires.0 c.requires.1
-    ∙ ap told (sym c.response.ensures ∙ c.in-Nothing.is))
+    ∙ ap told (sym c.response.ensures ∙ c.in-None.is))

@@ -5,12 +5,12 @@ use Rattle.decimal.specs.Lines.{tab, join}
 use Rattle.decimal.proofs.Room.{put_none, put_more}
 use Rattle.writer.proofs.put_last.Goals as goal
 
-pub returns-in-Absent : goal.returns-in-Absent
+pub returns-in-None : goal.returns-in-None
 unfolding join
-returns-in-Absent c = let a = c.args in rw c.in-Absent.is (put_none a.room.now a.at)
+returns-in-None c = let a = c.args in rw c.in-None.is (put_none a.room.now a.at)
 
-pub returns-in-Given : goal.returns-in-Given
+pub returns-in-Some : goal.returns-in-Some
 unfolding join
-returns-in-Given c =
-    rw c.in-Given.is
-    (put_more (tab ∷ []) (digits c.in-Given.u.0) c.put_byte-k.ensures c.put_number.ensures)
+returns-in-Some c =
+    rw c.in-Some.is
+    (put_more (tab ∷ []) (digits c.in-Some.u.0) c.put_byte-k.ensures c.put_number.ensures)

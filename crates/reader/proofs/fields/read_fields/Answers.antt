@@ -1,5 +1,6 @@
 -- `reader::fields::read_fields` meets its contract: k fields are behind `at`, and those from there
 -- on give the rest; the line ends where it does seen from there. Assumes nothing.
+use Rattle.std.proofs.Common.{Option}
 use mathlib.Core.Path.{◌≡◌, refl, sym, ap, ◌∙◌}
 use mathlib.Core.List.{List, map}
 use Prim.Native.Nat.{ℕ, ◌+◌}
@@ -8,7 +9,6 @@ use borrow.Author.Tests.{not-true, not-false}
 use lib.ListN.{length, drop}
 use Rattle.decimal.specs.Inner.Fields.{fields_from}
 use Rattle.decimal.proofs.Inner.Fields.{line_found}
-use Rattle.laws.specs.declared.Found.{Found}
 use Rattle.reader.specs.declared.fields.Fields.{Fields}
 use Rattle.reader.specs.Inner.Fields.{expected_of, line_end, counted, telling, passed}
 use Rattle.reader.proofs.Inner.Fields.{noted_by, pass_next, pass_last, pass_over, line_next, line_last, next_within}
@@ -18,7 +18,7 @@ pub loop-k-init : goal.loop-k-init
 loop-k-init c = (omega arith, omega arith, refl, refl)
 
 -- what the fields before k gave
-abbrev before : Found → List ℕ → ℕ → List ℕ → ℕ → Fields
+abbrev before : Option ℕ → List ℕ → ℕ → List ℕ → ℕ → Fields
 before wrong values k text from = record { wrong = wrong; values = values; count = k; end = line_end text from }
 
 pub returns-then-not-f : goal.returns-then-not-f

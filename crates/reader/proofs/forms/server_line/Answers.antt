@@ -6,13 +6,13 @@ use Rattle.text.specs.Line.{server_form, server_said, line_by}
 use Rattle.reader.proofs.Line.{lined, form_not, server_read}
 use Rattle.reader.proofs.forms.server_line.Goals as goal
 
-pub returns-in-At : goal.returns-in-At
+pub returns-in-Some : goal.returns-in-Some
 unfolding server_form line_by
-returns-in-At c =
+returns-in-Some c =
     let a = c.args in
     form_not server_form a.text.now a.from c.read_fields-f.result c.read_fields-f.ensures
     (OfServer (server_said (fields_from a.text.now a.from))) _
-    c.in-At.is
+    c.in-Some.is
 
 pub returns : goal.returns
 unfolding server_form line_by

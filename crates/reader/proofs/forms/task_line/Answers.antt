@@ -6,13 +6,13 @@ use Rattle.text.specs.Line.{task_form, task_said, line_by}
 use Rattle.reader.proofs.Line.{lined, form_not, task_read}
 use Rattle.reader.proofs.forms.task_line.Goals as goal
 
-pub returns-in-At : goal.returns-in-At
+pub returns-in-Some : goal.returns-in-Some
 unfolding task_form line_by
-returns-in-At c =
+returns-in-Some c =
     let a = c.args in
     form_not task_form a.text.now a.from c.read_fields-f.result c.read_fields-f.ensures
     (OfTask (task_said (fields_from a.text.now a.from))) _
-    c.in-At.is
+    c.in-Some.is
 
 pub returns : goal.returns
 unfolding task_form line_by

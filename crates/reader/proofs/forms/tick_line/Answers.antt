@@ -6,13 +6,13 @@ use Rattle.text.specs.Line.{tick_form, micros_at, line_by}
 use Rattle.reader.proofs.Line.{lined, form_not, tick_read}
 use Rattle.reader.proofs.forms.tick_line.Goals as goal
 
-pub returns-in-At : goal.returns-in-At
+pub returns-in-Some : goal.returns-in-Some
 unfolding tick_form line_by
-returns-in-At c =
+returns-in-Some c =
     let a = c.args in
     form_not tick_form a.text.now a.from c.read_fields-f.result c.read_fields-f.ensures
     (OfTick (micros_at (fields_from a.text.now a.from) 1)) _
-    c.in-At.is
+    c.in-Some.is
 
 pub returns : goal.returns
 unfolding tick_form line_by

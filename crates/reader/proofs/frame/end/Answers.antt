@@ -1,10 +1,10 @@
 -- `reader::frame::end` meets its contract: without a task a line is missing, else the rows of the
 -- first pair are told as lines. Assumes nothing.
+use Rattle.std.proofs.Common.{Some}
 use mathlib.Core.Path.{◌≡◌, refl, sym, ap, ◌∙◌}
 use Prim.Native.Nat.{ℕ, ◌<◌}
 use native.Mathlib.Omega.{arith}
 use borrow.Author.Tests.{eq-eqb, ne_eqb}
-use Rattle.table.specs.declared.Pair.TheVariants.{Equal}
 use Rattle.frametable.specs.declared.FrameTable.{FrameTable}
 use Rattle.frametable.specs.Rows.{frame_rows_of}
 use Rattle.frametable.specs.Rules.{equal_frame_tasks}
@@ -15,7 +15,7 @@ use Rattle.reader.proofs.FrameText.{frame_count, frame_nil, frame_ended_none, fr
 use Rattle.reader.proofs.frame.end.Goals as goal
 
 -- the rows of a pair that was found are rows in use
-tasks_low : (n i j : ℕ) (t : FrameTable) → FrameAbove n t → equal_frame_tasks (frame_rows_of t).tasks ≡ Equal i j →
+tasks_low : (n i j : ℕ) (t : FrameTable) → FrameAbove n t → equal_frame_tasks (frame_rows_of t).tasks ≡ Some (i, j) →
     (i < 64) × (j < 64)
 tasks_low n i j t a e =
     let count = frame_count t a.whole in pair_below _ 64 _ _ _ (omega (arith, count, a.few)) e
@@ -28,21 +28,21 @@ returns-then-tasks-eq0 c =
 
 pub overflow_add-i : goal.overflow_add-i
 overflow_add-i c =
-    let low = tasks_low _ _ _ _ c.requires (sym c.equal_frame_tasks-p.ensures ∙ c.in-Equal.is) in
+    let low = tasks_low _ _ _ _ c.requires (sym c.equal_frame_tasks-p.ensures ∙ c.in-Some.is) in
     record { fits = omega (arith, low.0) }
 
 pub overflow_add-j : goal.overflow_add-j
 overflow_add-j c =
-    let low = tasks_low _ _ _ _ c.requires (sym c.equal_frame_tasks-p.ensures ∙ c.in-Equal.is) in
+    let low = tasks_low _ _ _ _ c.requires (sym c.equal_frame_tasks-p.ensures ∙ c.in-Some.is) in
     record { fits = omega (arith, low.1) }
 
-pub returns-in-Equal : goal.returns-in-Equal
-returns-in-Equal c =
+pub returns-in-Some : goal.returns-in-Some
+returns-in-Some c =
     let t = c.args.t in
     let some = frame_nil t c.requires.whole ∙ ne_eqb _ 0 c.if-tasks-eq0.false in
     c.refuse_pair.ensures
     ∙ ap frame_shown
-    (frame_ended_pair c.args.n (frame_rows_of t) some (sym c.equal_frame_tasks-p.ensures ∙ c.in-Equal.is))
+    (frame_ended_pair c.args.n (frame_rows_of t) some (sym c.equal_frame_tasks-p.ensures ∙ c.in-Some.is))
 
 pub returns : goal.returns
 returns c =

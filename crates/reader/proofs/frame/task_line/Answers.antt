@@ -4,13 +4,13 @@ use Rattle.frametable.specs.Line.{frame_task_form}
 use Rattle.reader.proofs.FrameText.{frame_lined, frame_task_wrong, frame_task_read}
 use Rattle.reader.proofs.frame.task_line.Goals as goal
 
-pub returns-in-At : goal.returns-in-At
+pub returns-in-Some : goal.returns-in-Some
 unfolding frame_task_form
-returns-in-At c =
+returns-in-Some c =
     let a = c.args in
     frame_lined frame_task_form a.text.now a.from c.read_fields-f.result c.read_fields-f.ensures _ _
     (frame_task_wrong a.text.now a.from c.read_fields-f.result c.read_fields-f.ensures _
-    c.in-At.is)
+    c.in-Some.is)
 
 pub returns : goal.returns
 unfolding frame_task_form

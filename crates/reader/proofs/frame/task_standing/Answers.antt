@@ -7,9 +7,9 @@ use Rattle.reader.proofs.frame.task_standing.Goals as goal
 pub task_bounds-requires : goal.task_bounds-requires
 task_bounds-requires c = (within_low 1 10000 _ c.requires, within_high 1 10000 _ c.requires)
 
-pub returns-in-At : goal.returns-in-At
-returns-in-At c =
-    rw (sym c.task_bounds.ensures ∙ c.in-At.is)
+pub returns-in-Some : goal.returns-in-Some
+returns-in-Some c =
+    rw (sym c.task_bounds.ensures ∙ c.in-Some.is)
 
 pub returns : goal.returns
 returns c = rw (sym c.task_bounds.ensures ∙ c.in_default.is)

@@ -4,13 +4,13 @@ use Rattle.text.specs.Line.{tick_form}
 use Rattle.reader.proofs.FrameText.{frame_lined, frame_tick_wrong, frame_tick_read}
 use Rattle.reader.proofs.frame.tick_line.Goals as goal
 
-pub returns-in-At : goal.returns-in-At
+pub returns-in-Some : goal.returns-in-Some
 unfolding tick_form
-returns-in-At c =
+returns-in-Some c =
     let a = c.args in
     frame_lined tick_form a.text.now a.from c.read_fields-f.result c.read_fields-f.ensures _ _
     (frame_tick_wrong a.text.now a.from c.read_fields-f.result c.read_fields-f.ensures _
-    c.in-At.is)
+    c.in-Some.is)
 
 pub returns : goal.returns
 unfolding tick_form

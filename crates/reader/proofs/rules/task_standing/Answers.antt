@@ -1,7 +1,7 @@
 -- `reader::rules::task_standing` meets its contract: its bounds, then its rows and its limits as
 -- they are rounded up, the tick being from 1 to 10,000. Assumes nothing.
+use Rattle.std.proofs.Common.{None}
 use mathlib.Core.Path.{◌≡◌, sym, ap, ◌∙◌}
-use Rattle.laws.specs.declared.Found.TheVariants.{Nothing}
 use Rattle.laws.specs.Search.{first_failed}
 use Rattle.laws.proofs.Choice.{within_low, within_high}
 use Rattle.laws.proofs.Search.{failed_none}
@@ -15,13 +15,13 @@ use Rattle.reader.proofs.rules.task_standing.Goals.{In_default}
 pub task_bounds-requires : goal.task_bounds-requires
 task_bounds-requires c = (within_low 1 10000 _ c.requires, within_high 1 10000 _ c.requires)
 
-pub returns-in-At : goal.returns-in-At
-returns-in-At c =
-    rw (sym c.task_bounds.ensures ∙ c.in-At.is)
+pub returns-in-Some : goal.returns-in-Some
+returns-in-Some c =
+    rw (sym c.task_bounds.ensures ∙ c.in-Some.is)
 
 bounded : (c : In_default) →
     let a = c.args in
-    first_failed (task_bounds a.tasks a.tick.0 a.k) ≡ Nothing
+    first_failed (task_bounds a.tasks a.tick.0 a.k) ≡ None
 bounded c = sym c.task_bounds.ensures ∙ c.in_default.is
 
 pub limits-limit-requires : goal.limits-limit-requires
