@@ -51,6 +51,28 @@ pub enum Answer {
     No(Refusal),
 }
 
+// What is handed back for a start, with the run of whatever box it is.
+#[derive(Clone, Copy)]
+pub struct Begun<R> {
+    pub answer: Result<(), Refusal>,
+    pub run: R,
+}
+
+// What is handed back for an event: the answer, and the run after it.
+#[derive(Clone, Copy)]
+pub struct Answered<R> {
+    pub answer: Answer,
+    pub run: R,
+}
+
+// What is handed back for many event lines: that they were taken, or why none of them was, and the
+// run after them.
+#[derive(Clone, Copy)]
+pub struct Many<R> {
+    pub answer: Result<(), Refusal>,
+    pub run: R,
+}
+
 // What an answer tells: the paper's number for no, or the answer itself.
 #[derive(Clone, Copy)]
 pub enum Told {

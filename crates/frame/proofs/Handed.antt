@@ -13,12 +13,13 @@ use Rattle.frametable.specs.Rules.{frame_table_keeps}
 use Rattle.frametable.specs.Text.{frame_read, frame_shown}
 use Rattle.frametable.proofs.Rules.{frame_rows_table}
 use Rattle.frametable.proofs.Text.{frame_rows_keep}
-use Rattle.framerun.specs.declared.FrameBegun.{FrameBegun}
+use Rattle.events.specs.declared.Begun.{Begun}
 use Rattle.framerun.specs.Release.{fresh_frame, start_of}
 use Rattle.files.specs.declared.given.Case.TheVariants.{Read as Answer}
 use Rattle.files.proofs.Handed.{taken_given}
 use Rattle.frame.specs.declared.given.FrameGiven.{FrameGiven}
 use Rattle.frame.specs.Handed.{FrameHanded}
+use Rattle.framerun.specs.declared.FrameRun.{FrameRun}
 
 read_keeps : (text : List ℕ) → (frame_shown (frame_read text)).answer ≡ Taken →
     frame_table_keeps (frame_shown (frame_read text)).table ≡ true
@@ -36,4 +37,4 @@ frame_given_keeps g h a e t =
 pub frame_start_run : (t : FrameTable) → (start_of t).run ≡ fresh_frame t
 unfolding start_of
 frame_start_run t =
-    if_ind (λ (a : FrameBegun). a.run ≡ fresh_frame t) (frame_table_keeps t) (λ e. refl) (λ e. refl)
+    if_ind (λ (a : Begun FrameRun). a.run ≡ fresh_frame t) (frame_table_keeps t) (λ e. refl) (λ e. refl)

@@ -28,7 +28,7 @@ use Rattle.frametable.specs.Rows.{frame_limit_at}
 use Rattle.frametable.specs.Rules.{frame_table_keeps}
 use Rattle.framerun.specs.declared.FrameState.{FrameState}
 use Rattle.framerun.specs.declared.FrameRun.{FrameRun}
-use Rattle.framerun.specs.declared.FrameAnswered.{FrameAnswered}
+use Rattle.events.specs.declared.Answered.{Answered}
 use Rattle.framerun.specs.State.{queues_of, waiting_at, runs_at, fresh}
 use Rattle.framerun.specs.Release.{fresh_frame}
 use Rattle.framerun.specs.Tick.{Settled, settle, tick_taken}
@@ -86,14 +86,14 @@ module _ (t : FrameTable) (s : FrameState) (mark : Bool) (many : t.ntasks ≤ 64
   none_discarded = refl
 
 -- One event, taken or refused. `JobsOf` counts task k alone.
-abbrev JobsOf : FrameRun → ℕ → FrameAnswered → Type 0
+abbrev JobsOf : FrameRun → ℕ → Answered FrameRun → Type 0
 JobsOf r k a =
     waiting_at a.run.state k +
     (by_left (λ l. finished_by l k) a.answer + by_left (λ l. cut_by l k) a.answer) +
     discarded a.answer
     ≡ waiting_at r.state k + release_by k a.answer
 
-abbrev Jobs : FrameRun → FrameAnswered → Type 0
+abbrev Jobs : FrameRun → Answered FrameRun → Type 0
 Jobs r a =
     sum_below r.table.ntasks (waiting_at a.run.state) +
     (by_left any_finished a.answer + by_left any_cut a.answer) +
@@ -158,9 +158,9 @@ none_gone r [] g = refl
 none_gone r (e ∷ es) g = omega (arith, one r e g, none_gone (event_of r e).run es (event_keeps r e g))
   where
     one : (r : FrameRun) (e : Event) → Good r → discarded (event_of r e).answer ≡ 0
-    one r (Release k) g = release_ind (λ (a : FrameAnswered). discarded a.answer ≡ 0) r k (λ why. refl) (λ y. refl)
+    one r (Release k) g = release_ind (λ (a : Answered FrameRun). discarded a.answer ≡ 0) r k (λ why. refl) (λ y. refl)
     one r (Tick mark) g =
-        tick_ind (λ (a : FrameAnswered). discarded a.answer ≡ 0) r mark (λ why. refl)
+        tick_ind (λ (a : Answered FrameRun). discarded a.answer ≡ 0) r mark (λ why. refl)
         (λ y.
         none_discarded r.table r.state mark (run_rules r g).tasks_high g.0.state (sound_state_lem r g.1).last)
 

@@ -29,7 +29,7 @@ use Rattle.frametable.specs.Rules.{frame_table_keeps}
 use Rattle.frametable.proofs.Rules.{FrameTableRules, frame_table_rules}
 use Rattle.framerun.specs.declared.FrameState.{FrameState}
 use Rattle.framerun.specs.declared.FrameRun.{FrameRun}
-use Rattle.framerun.specs.declared.FrameAnswered.{FrameAnswered}
+use Rattle.events.specs.declared.Answered.{Answered}
 use Rattle.framerun.specs.State.{queues_of, waiting_at, runs_at, fresh}
 use Rattle.framerun.specs.Sound.{frame_sound}
 use Rattle.framerun.specs.Release.{with_job, fresh_frame}
@@ -162,7 +162,7 @@ run_rules r g = frame_table_rules r.table g.0.table (sound_table r g.1)
 pub event_keeps : (r : FrameRun) (e : Event) → Good r → Good (event_of r e).run
 event_keeps r (Release k) g =
     let rules = run_rules r g in
-    release_ind (λ (a : FrameAnswered). Good a.run) r k (λ why. g)
+    release_ind (λ (a : Answered FrameRun). Good a.run) r k (λ why. g)
     (λ y.
     let l = ltb-true k r.table.ntasks y.task in (
       record {
@@ -175,7 +175,7 @@ event_keeps r (Release k) g =
     ))
 event_keeps r (Tick mark) g =
     let rules = run_rules r g in
-    tick_ind (λ (a : FrameAnswered). Good a.run) r mark (λ why. g)
+    tick_ind (λ (a : Answered FrameRun). Good a.run) r mark (λ why. g)
     (λ y.
     let n = ltb-true r.state.ticks.0 4000000000 y.count in (
       record {
@@ -201,5 +201,5 @@ frame_lines_keep r ls h q = lines_keep frame_box Good event_keeps r ls (h, q)
 
 -- an event leaves the table alone
 pub event_table : (r : FrameRun) (e : Event) → (event_of r e).run.table ≡ r.table
-event_table r (Release k) = release_ind (λ (a : FrameAnswered). a.run.table ≡ r.table) r k (λ why. refl) (λ y. refl)
-event_table r (Tick mark) = tick_ind (λ (a : FrameAnswered). a.run.table ≡ r.table) r mark (λ why. refl) (λ y. refl)
+event_table r (Release k) = release_ind (λ (a : Answered FrameRun). a.run.table ≡ r.table) r k (λ why. refl) (λ y. refl)
+event_table r (Tick mark) = tick_ind (λ (a : Answered FrameRun). a.run.table ≡ r.table) r mark (λ why. refl) (λ y. refl)

@@ -20,8 +20,8 @@ use Rattle.queues.proofs.Queues.{no_job}
 use Rattle.frametable.specs.declared.FrameTable.{FrameTable}
 use Rattle.frametable.specs.Rules.{frame_table_keeps}
 use Rattle.framerun.specs.declared.FrameRun.{FrameRun}
-use Rattle.framerun.specs.declared.FrameBegun.{FrameBegun}
-use Rattle.framerun.specs.declared.FrameAnswered.{FrameAnswered}
+use Rattle.events.specs.declared.Begun.{Begun}
+use Rattle.events.specs.declared.Answered.{Answered}
 use Rattle.framerun.specs.State.{waiting_at}
 use Rattle.framerun.specs.Sound.{frame_sound}
 use Rattle.framerun.specs.Release.{fresh_frame, start_of, release_of}
@@ -33,10 +33,10 @@ use Rattle.framerun.proofs.Sound.{sound_state_lem}
 -- A refused event leaves the run as it was.
 pub refused_as_it_was : (r : FrameRun) (e : Event) (why : Refusal) → (event_of r e).answer ≡ No why → (event_of r e).run ≡ r
 refused_as_it_was r (Release k) why =
-    release_ind (λ (a : FrameAnswered). a.answer ≡ No why → a.run ≡ r) r k (λ w e. refl)
+    release_ind (λ (a : Answered FrameRun). a.answer ≡ No why → a.run ≡ r) r k (λ w e. refl)
     (λ y e. let z : ◌≡◌ {A = ℕ} 0 1 = cc in absurd (omega arith))
 refused_as_it_was r (Tick mark) why =
-    tick_ind (λ (a : FrameAnswered). a.answer ≡ No why → a.run ≡ r) r mark (λ w e. refl)
+    tick_ind (λ (a : Answered FrameRun). a.answer ≡ No why → a.run ≡ r) r mark (λ w e. refl)
     (λ y e. let z : ◌≡◌ {A = ℕ} 0 1 = cc in absurd (omega arith))
 
 -- When a release is refused and why, each case in its order: what comes before it has held.
@@ -62,7 +62,7 @@ module _ (r : FrameRun) (k : ℕ) where
 
   pub release_number_lem : ReleaseCase (no_of (release_of r k).answer)
   release_number_lem =
-      release_cases (λ (a : FrameAnswered). ReleaseCase (no_of a.answer)) r k (λ e. e) (λ a e. (a, ltb-false k tasks e))
+      release_cases (λ (a : Answered FrameRun). ReleaseCase (no_of a.answer)) r k (λ e. e) (λ a e. (a, ltb-false k tasks e))
       (λ a b e.
       let l : k < tasks = ltb-true k tasks b in
       (a, l, omega (arith, ltb-false waiting 16 e, ((sound_state_lem r a).tasks k l).queue)))
@@ -141,7 +141,7 @@ module _ (r : FrameRun) (mark : Bool) where
 
   pub tick_number_lem : TickCase (no_of (tick_of r mark).answer)
   tick_number_lem =
-      tick_cases (λ (a : FrameAnswered). TickCase (no_of a.answer)) r mark (λ e. e)
+      tick_cases (λ (a : Answered FrameRun). TickCase (no_of a.answer)) r mark (λ e. e)
       (λ a e. (a, (no_job mark last).0 e))
       (λ a f e. (a, job.0 f, omega (arith, ltb-false ticks 4000000000 e, (sound_state_lem r a).counts.ticks)))
       (λ y. (y.sound, job.0 y.job, ltb-true ticks 4000000000 y.count))
@@ -176,7 +176,7 @@ pub start_13 : (t : FrameTable) → (starting_number (start_of t).answer ≡ 13)
 unfolding start_of
 start_13 t = (
   if_ind
-      (λ (a : FrameBegun). starting_number a.answer ≡ 13 → frame_table_keeps t ≡ false)
+      (λ (a : Begun FrameRun). starting_number a.answer ≡ 13 → frame_table_keeps t ≡ false)
       (frame_table_keeps t)
       (λ e q. absurd (omega arith))
       (λ e q. e),
@@ -185,4 +185,4 @@ start_13 t = (
 
 pub start_run : (t : FrameTable) → (start_of t).run ≡ fresh_frame t
 unfolding start_of
-start_run t = if_ind (λ (a : FrameBegun). a.run ≡ fresh_frame t) (frame_table_keeps t) (λ e. refl) (λ e. refl)
+start_run t = if_ind (λ (a : Begun FrameRun). a.run ≡ fresh_frame t) (frame_table_keeps t) (λ e. refl) (λ e. refl)

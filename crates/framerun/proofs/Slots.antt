@@ -26,7 +26,7 @@ use Rattle.queues.specs.Queues.{turn_of}
 use Rattle.frametable.specs.declared.FrameTable.{FrameTable}
 use Rattle.framerun.specs.declared.FrameState.{FrameState}
 use Rattle.framerun.specs.declared.FrameRun.{FrameRun}
-use Rattle.framerun.specs.declared.FrameAnswered.{FrameAnswered}
+use Rattle.events.specs.declared.Answered.{Answered}
 use Rattle.framerun.specs.Tick.{settle, highest_task, turn_at, tick_taken}
 use Rattle.framerun.specs.Events.{event_of, frame_box}
 use Rattle.framerun.proofs.Taken.{release_ind, tick_ind}
@@ -65,7 +65,7 @@ answer_slotted : (r : FrameRun) (e : Event) (rest : List Answer) →
 unfolding ticks_in
 answer_slotted r (Release k) rest =
     release_ind
-    (λ (a : FrameAnswered).
+    (λ (a : Answered FrameRun).
     Slotted a.run.state.ticks.0 (ticks_in rest) → Slotted r.state.ticks.0 (ticks_in (a.answer ∷ rest)))
     r
     k
@@ -73,7 +73,7 @@ answer_slotted r (Release k) rest =
     (λ y h. h)
 answer_slotted r (Tick mark) rest =
     tick_ind
-    (λ (a : FrameAnswered).
+    (λ (a : Answered FrameRun).
     Slotted a.run.state.ticks.0 (ticks_in rest) → Slotted r.state.ticks.0 (ticks_in (a.answer ∷ rest)))
     r
     mark

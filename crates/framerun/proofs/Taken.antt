@@ -10,7 +10,7 @@ use Rattle.table.specs.declared.Refusal.TheVariants.{NoTask, QueueFull, NoJobRan
 use Rattle.events.specs.declared.Answer.TheVariants.{Released}
 use Rattle.queues.specs.Queues.{ran_job}
 use Rattle.framerun.specs.declared.FrameRun.{FrameRun}
-use Rattle.framerun.specs.declared.FrameAnswered.{FrameAnswered}
+use Rattle.events.specs.declared.Answered.{Answered}
 use Rattle.framerun.specs.State.{waiting_at}
 use Rattle.framerun.specs.Sound.{frame_sound}
 use Rattle.framerun.specs.Release.{refused, with_job, release_of}
@@ -44,14 +44,14 @@ pub record TickTaken (r : FrameRun) (mark : Bool) : Type 0 where
   pub count : counts_on r.state.ticks.0 ≡ true
 
 -- a release and a tick that are taken
-abbrev pub release_taken : FrameRun → ℕ → FrameAnswered
+abbrev pub release_taken : FrameRun → ℕ → Answered FrameRun
 release_taken r k = record { answer = Released k; run = record { table = r.table; state = with_job r.state k } }
 
-abbrev pub ticked_taken : FrameRun → Bool → FrameAnswered
+abbrev pub ticked_taken : FrameRun → Bool → Answered FrameRun
 ticked_taken r mark = ticked r (tick_taken r.table r.state mark)
 
 -- by the first test that fails
-pub release_cases : (P : FrameAnswered → Type 0) (r : FrameRun) (k : ℕ) →
+pub release_cases : (P : Answered FrameRun → Type 0) (r : FrameRun) (k : ℕ) →
     (frame_sound r ≡ false → P (refused r Unsound)) →
     (frame_sound r ≡ true → is_task r k ≡ false → P (refused r NoTask)) →
     (frame_sound r ≡ true → is_task r k ≡ true → has_room r k ≡ false → P (refused r QueueFull)) →
@@ -73,7 +73,7 @@ release_cases P r k c13 c6 c8 c10 y =
     (c6 e1))
     c13
 
-pub tick_cases : (P : FrameAnswered → Type 0) (r : FrameRun) (mark : Bool) →
+pub tick_cases : (P : Answered FrameRun → Type 0) (r : FrameRun) (mark : Bool) →
     (frame_sound r ≡ false → P (refused r Unsound)) →
     (frame_sound r ≡ true → mark_taken r mark ≡ false → P (refused r NoJobRan)) →
     (frame_sound r ≡ true → mark_taken r mark ≡ true → counts_on r.state.ticks.0 ≡ false → P (refused r CountSpent)) →
@@ -89,11 +89,11 @@ tick_cases P r mark c13 c9 c10 y =
     c13
 
 -- taken or refused
-pub release_ind : (P : FrameAnswered → Type 0) (r : FrameRun) (k : ℕ) → ((why : Refusal) → P (refused r why)) →
+pub release_ind : (P : Answered FrameRun → Type 0) (r : FrameRun) (k : ℕ) → ((why : Refusal) → P (refused r why)) →
     (ReleaseTaken r k → P (release_taken r k)) → P (release_of r k)
 release_ind P r k n y =
     release_cases P r k (λ a. n Unsound) (λ a b. n NoTask) (λ a b c. n QueueFull) (λ a b c d. n CountSpent) y
 
-pub tick_ind : (P : FrameAnswered → Type 0) (r : FrameRun) (mark : Bool) → ((why : Refusal) → P (refused r why)) →
+pub tick_ind : (P : Answered FrameRun → Type 0) (r : FrameRun) (mark : Bool) → ((why : Refusal) → P (refused r why)) →
     (TickTaken r mark → P (ticked_taken r mark)) → P (tick_of r mark)
 tick_ind P r mark n y = tick_cases P r mark (λ a. n Unsound) (λ a b. n NoJobRan) (λ a b c. n CountSpent) y

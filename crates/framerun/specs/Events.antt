@@ -4,12 +4,12 @@ use Rattle.events.specs.declared.Event.{Event}
 use Rattle.events.specs.declared.Event.TheVariants.{Release, Tick}
 use Rattle.events.specs.Boxes.{Box}
 use Rattle.framerun.specs.declared.FrameRun.{FrameRun}
-use Rattle.framerun.specs.declared.FrameAnswered.{FrameAnswered}
+use Rattle.events.specs.declared.Answered.{Answered}
 use Rattle.framerun.specs.Sound.{frame_sound}
 use Rattle.framerun.specs.Release.{release_of}
 use Rattle.framerun.specs.Tick.{tick_of}
 
-abbrev pub event_of : FrameRun → Event → FrameAnswered
+abbrev pub event_of : FrameRun → Event → Answered FrameRun
 event_of r (Release k) = release_of r k
 event_of r (Tick mark) = tick_of r mark
 

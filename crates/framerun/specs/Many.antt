@@ -8,14 +8,14 @@ use Rattle.table.specs.declared.Refusal.TheVariants.{RoomShort, Unsound}
 use Rattle.events.specs.Values.{lines_said, all_values}
 use Rattle.events.specs.Boxes.{told_all_in, after_lines_in}
 use Rattle.framerun.specs.declared.FrameRun.{FrameRun}
-use Rattle.framerun.specs.declared.FrameMany.{FrameMany}
+use Rattle.events.specs.declared.Many.{Many}
 use Rattle.framerun.specs.Sound.{frame_sound}
 use Rattle.framerun.specs.Events.{frame_box}
 use Rattle.events.specs.declared.Event.{Event}
 
 -- what is handed back, and the lent room after it
 pub record FrameLent : Type 0 where
-  pub many : FrameMany
+  pub many : Many FrameRun
   pub room : List ℕ
 
 -- 12: "room as it was"; 13: "it, as it was"

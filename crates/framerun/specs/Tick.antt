@@ -15,7 +15,7 @@ use Rattle.frametable.specs.declared.FrameTable.{FrameTable}
 use Rattle.frametable.specs.Rows.{partition_at, frame_priority_at, frame_limit_at}
 use Rattle.framerun.specs.declared.FrameState.{FrameState}
 use Rattle.framerun.specs.declared.FrameRun.{FrameRun}
-use Rattle.framerun.specs.declared.FrameAnswered.{FrameAnswered}
+use Rattle.events.specs.declared.Answered.{Answered}
 use Rattle.framerun.specs.State.{queues_of, runs_at, with_queues, with_last, with_counts}
 use Rattle.framerun.specs.Sound.{frame_sound}
 use Rattle.framerun.specs.Release.{refused}
@@ -71,11 +71,11 @@ tick_taken t s mark =
     let z = settle t s mark s.last in
     record { answer = tick_answer t z; state = advance t z.state (turn_at t z.state) }
 
-abbrev pub ticked : FrameRun → Stepped → FrameAnswered
+abbrev pub ticked : FrameRun → Stepped → Answered FrameRun
 ticked r d = record { answer = Ticked d.answer; run = record { table = r.table; state = d.state } }
 
 -- 13 first; tick 9, 10
-unfoldable pub tick_of : FrameRun → Bool → FrameAnswered
+unfoldable pub tick_of : FrameRun → Bool → Answered FrameRun
 tick_of r mark =
     unless frame_sound r say refused r Unsound
     else unless not mark || ran_job r.state.last say refused r NoJobRan

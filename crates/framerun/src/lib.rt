@@ -3,9 +3,8 @@
 
 #![tactic(auto)]
 
-use events::Answer;
 use frametable::FrameTable;
-use table::{Refusal, TASKS};
+use table::TASKS;
 use units::Ticks;
 
 // The counts of a run: the tasks' queues (crate queues), the last-run job, and how many ticks were
@@ -24,26 +23,4 @@ pub struct FrameState {
 pub struct FrameRun {
     pub table: FrameTable,
     pub state: FrameState,
-}
-
-// What is handed back for a start.
-#[derive(Clone, Copy)]
-pub struct FrameBegun {
-    pub answer: Result<(), Refusal>,
-    pub run: FrameRun,
-}
-
-// What is handed back for an event.
-#[derive(Clone, Copy)]
-pub struct FrameAnswered {
-    pub answer: Answer,
-    pub run: FrameRun,
-}
-
-// What is handed back for many event lines: that they were taken, or why none of them was, and the
-// run after them.
-#[derive(Clone, Copy)]
-pub struct FrameMany {
-    pub answer: Result<(), Refusal>,
-    pub run: FrameRun,
 }

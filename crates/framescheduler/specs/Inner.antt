@@ -11,7 +11,7 @@ use Rattle.frametable.specs.declared.FrameTable.{FrameTable}
 use Rattle.frametable.specs.Rows.{partition_at, frame_priority_at}
 use Rattle.framerun.specs.declared.FrameState.{FrameState}
 use Rattle.framerun.specs.declared.FrameRun.{FrameRun}
-use Rattle.framerun.specs.declared.FrameAnswered.{FrameAnswered}
+use Rattle.events.specs.declared.Answered.{Answered}
 use Rattle.framerun.specs.Sound.{sound_task, frame_sound}
 use Rattle.framerun.specs.Tick.{settle}
 use Rattle.framescheduler.specs.declared.steps.Head.{Head}
@@ -33,7 +33,7 @@ abbrev pub run_of : FrameTable → Head → List ℕ → List ℕ → FrameRun
 run_of t h waiting runs = record { table = t; state = state_of h waiting runs }
 
 -- what a step answers, with the run after it
-abbrev pub stepped : FrameTable → Step → List ℕ → List ℕ → FrameAnswered
+abbrev pub stepped : FrameTable → Step → List ℕ → List ℕ → Answered FrameRun
 stepped t d waiting runs = record { answer = d.answer; run = run_of t d.head waiting runs }
 
 -- the last-run task has a row in the arrays

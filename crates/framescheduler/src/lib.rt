@@ -16,8 +16,8 @@ ghost use Rattle.framerun.specs.Many.{frame_many_of};
 ghost use Rattle.framescheduler.specs.Inner.{head_of, run_of};
 
 use crate::steps::Head;
-use events::{Answer, Event, LINE_VALUES, TOLD_VALUES};
-use framerun::{FrameAnswered, FrameBegun, FrameMany, FrameRun, FrameState};
+use events::{Answer, Answered, Begun, Event, LINE_VALUES, Many, TOLD_VALUES};
+use framerun::{FrameRun, FrameState};
 use frametable::FrameTable;
 use table::{Refusal, TASKS};
 use units::Ticks;
@@ -36,18 +36,18 @@ fn fresh_state() -> FrameState
 }
 
 // Start afresh with a table. Refused: 13.
-pub fn start(t: FrameTable) -> FrameBegun
+pub fn start(t: FrameTable) -> Begun<FrameRun>
     ensures { result ≡ start_of t }
 {
     let state = fresh_state();
     let run = FrameRun { table: t, state };
     if frametable::frame_table_keeps(t) {
-        return FrameBegun {
+        return Begun {
             answer: Ok(()),
             run,
         };
     }
-    FrameBegun {
+    Begun {
         answer: Err(Refusal::Unsound),
         run,
     }
@@ -82,13 +82,13 @@ fn run_of(t: FrameTable, h: Head, waiting: [u8; TASKS], runs: [u32; TASKS]) -> F
 }
 
 // An event, on a run that is handed in. Refused: 13 first.
-fn answer_event(r: FrameRun, e: Event) -> FrameAnswered
+fn answer_event(r: FrameRun, e: Event) -> Answered<FrameRun>
     ensures { result ≡ event_of r e }
 {
     let t = r.table;
     let s = r.state;
     if !sound::run_sound(t, s) {
-        return FrameAnswered {
+        return Answered {
             answer: Answer::No(Refusal::Unsound),
             run: r,
         };
@@ -101,11 +101,11 @@ fn answer_event(r: FrameRun, e: Event) -> FrameAnswered
     let answer = d.answer;
     let head = d.head;
     let run = run_of(t, head, waiting, runs);
-    FrameAnswered { answer, run }
+    Answered { answer, run }
 }
 
 // A release of a task. Refused: 13, then 6, 8, 10.
-pub fn release(r: FrameRun, task: usize) -> FrameAnswered
+pub fn release(r: FrameRun, task: usize) -> Answered<FrameRun>
     ensures { result ≡ release_of r task }
 {
     let e = Event::Release(task);
@@ -113,7 +113,7 @@ pub fn release(r: FrameRun, task: usize) -> FrameAnswered
 }
 
 // One tick, with its end mark. Refused: 13, then 9, 10.
-pub fn tick(r: FrameRun, mark: bool) -> FrameAnswered
+pub fn tick(r: FrameRun, mark: bool) -> Answered<FrameRun>
     ensures { result ≡ tick_of r mark }
 {
     let e = Event::Tick(mark);
@@ -122,19 +122,19 @@ pub fn tick(r: FrameRun, mark: bool) -> FrameAnswered
 
 // What is told to many event lines stands at the front of the lent room, nine numbers a line.
 // Refused: 13, then 12.
-pub fn answer_many(r: FrameRun, lines: &[u64], told: &mut [u64]) -> FrameMany
+pub fn answer_many(r: FrameRun, lines: &[u64], told: &mut [u64]) -> Many<FrameRun>
     ensures { record { many = result; room = told.new } ≡ frame_many_of r lines.now told.old }
 {
     let t = r.table;
     let s = r.state;
     if !sound::run_sound(t, s) {
-        return FrameMany {
+        return Many {
             answer: Err(Refusal::Unsound),
             run: r,
         };
     }
     if told.len() / TOLD_VALUES < lines.len() / LINE_VALUES {
-        return FrameMany {
+        return Many {
             answer: Err(Refusal::RoomShort),
             run: r,
         };
@@ -145,7 +145,7 @@ pub fn answer_many(r: FrameRun, lines: &[u64], told: &mut [u64]) -> FrameMany
     let mut runs = s.runs;
     let head = steps::answer_lines(t, h, &frame, &mut waiting, &mut runs, lines, told);
     let run = run_of(t, head, waiting, runs);
-    FrameMany {
+    Many {
         answer: Ok(()),
         run,
     }

@@ -8,13 +8,13 @@ use lib.ListN.{length, take}
 use borrow.Author.Tests.{le-leb}
 use Rattle.events.specs.Values.{lines_said}
 use Rattle.framerun.specs.declared.FrameRun.{FrameRun}
-use Rattle.framerun.specs.declared.FrameMany.{FrameMany}
+use Rattle.events.specs.declared.Many.{Many}
 use Rattle.framerun.specs.Sound.{frame_sound}
 use Rattle.framerun.specs.Events.{frame_box}
 use Rattle.framerun.specs.Many.{frame_many_of, taken, FrameLent}
 use Rattle.lines.proofs.Serving.{Telling, told_front}
 
-module _ (r : FrameRun) (values told : List ℕ) (fits : 9 * length (lines_said values) ≤ length told) (many : FrameMany)
+module _ (r : FrameRun) (values told : List ℕ) (fits : 9 * length (lines_said values) ≤ length told) (many : Many FrameRun)
     (now : List ℕ)
     (m : record { many = many; room = now } ≡ frame_many_of r values told) where
   all_told_lem : frame_sound r ≡ true → record { many = many; room = now } ≡ taken r (lines_said values) told

@@ -5,15 +5,15 @@ use Rattle.framerun.specs.declared.FrameRun.{FrameRun}
 use Rattle.framerun.specs.Events.{frame_box}
 use Rattle.lines.specs.declared.Held.{Held}
 use Rattle.lines.specs.Serving.{Service, serve_in}
-use Rattle.frameserving.specs.declared.FrameServed.{FrameServed}
+use Rattle.lines.specs.declared.Served.{Served}
 
 -- what is handed back, and the lent room after it
 pub record FrameBuffered : Type 0 where
-  pub served : FrameServed
+  pub served : Served FrameRun
   pub room : List ℕ
 
 -- nothing of a buffer is taken: what was handed in comes back
-abbrev pub untaken : Refusal → FrameRun → Held → FrameServed
+abbrev pub untaken : Refusal → FrameRun → Held → Served FrameRun
 untaken why r h = record { answer = Err why; run = r; held = h; eaten = 0; put = 0 }
 
 abbrev pub service_of : FrameBuffered → Service FrameRun

@@ -15,27 +15,15 @@ use cutter::cut_lines;
 use events::{LINE_VALUES, TOLD_VALUES};
 use framerun::FrameRun;
 use framescheduler::answer_many;
-use lines::{BATCH, Cut, Held, lines_at_once};
+use lines::{BATCH, Cut, Held, Served, lines_at_once};
 use printer::print_lines;
 use table::Refusal;
 
-// What is handed back for a buffer: the run and the line that is not closed yet, after it; how many
-// of its bytes were taken, and how many bytes of the lent room are their answers.
-// (specs/Buffer.antt.)
-#[derive(Clone, Copy)]
-pub struct FrameServed {
-    pub answer: Result<(), Refusal>,
-    pub run: FrameRun,
-    pub held: Held,
-    pub eaten: usize,
-    pub put: usize,
-}
-
 // 12 and 13: nothing is taken, and what was handed in comes back.
-fn refused(why: Refusal, r: FrameRun, h: Held) -> FrameServed
+fn refused(why: Refusal, r: FrameRun, h: Held) -> Served<FrameRun>
     ensures { result ≡ untaken why r h }
 {
-    FrameServed {
+    Served {
         answer: Err(why),
         run: r,
         held: h,
@@ -45,7 +33,7 @@ fn refused(why: Refusal, r: FrameRun, h: Held) -> FrameServed
 }
 
 // The lines that were cut, answered: the box is told of them, and what it tells is printed.
-fn answer_lines(r: FrameRun, h: Held, c: Cut, lines: &[u64], room: &mut [u8]) -> FrameServed
+fn answer_lines(r: FrameRun, h: Held, c: Cut, lines: &[u64], room: &mut [u8]) -> Served<FrameRun>
     requires { Fit lines.now (length room.old) }
     ensures { service_of (record { served = result; room = room.new })
         ≡ answered_cut frame_box r h c (lines_said lines.now) room.old }
@@ -64,7 +52,7 @@ fn answer_lines(r: FrameRun, h: Held, c: Cut, lines: &[u64], room: &mut [u8]) ->
     let p = print_lines(lines, &told[..TOLD_VALUES * n], room);
     let run = m.run;
     let held = c.held;
-    FrameServed {
+    Served {
         answer: Ok(()),
         run,
         held,
@@ -76,7 +64,7 @@ fn answer_lines(r: FrameRun, h: Held, c: Cut, lines: &[u64], room: &mut [u8]) ->
 // The answers to a buffer stand at the front of the lent room. At most a batch of lines is taken,
 // and no more than the room holds the answers of; the rest of the buffer is to be served next, from
 // what is handed back. Refused: 13, then, where a byte is there to take, 12.
-pub fn serve(r: FrameRun, h: Held, input: &[u8], room: &mut [u8]) -> FrameServed
+pub fn serve(r: FrameRun, h: Held, input: &[u8], room: &mut [u8]) -> Served<FrameRun>
     ensures { record { served = result; room = room.new } ≡ frame_serve_of r h input.now room.old }
 {
     let most = lines_at_once(room.len());

@@ -42,6 +42,17 @@ pub struct Printed {
     pub put: usize,
 }
 
+// What is handed back for a buffer that was served: the run and the line that is not closed yet, after
+// it; how many of its bytes were taken, and how many bytes of the lent room are their answers.
+#[derive(Clone, Copy)]
+pub struct Served<R> {
+    pub answer: Result<(), Refusal>,
+    pub run: R,
+    pub held: Held,
+    pub eaten: usize,
+    pub put: usize,
+}
+
 // So many lines at most are taken at once.
 pub const BATCH: usize = 1024;
 

@@ -28,7 +28,7 @@ use Rattle.events.specs.declared.Left.{Left}
 use Rattle.events.specs.declared.Left.TheVariants.{Nobody, Done, Cut}
 use Rattle.events.specs.declared.Event.{Event}
 use Rattle.events.specs.declared.Event.TheVariants.{Release, Tick}
-use Rattle.run.specs.declared.Answered.{Answered}
+use Rattle.events.specs.declared.Answered.{Answered}
 use Rattle.run.specs.State.{waits, waits_for}
 use Rattle.run.specs.Sound.{sound}
 use Rattle.events.specs.Answers.{charged}
@@ -216,7 +216,7 @@ all_fit r (e ∷ es) h q =
     now (Release k) rest = rest
     now (Tick mark) rest =
         tick_ind
-        (λ (a : Answered).
+        (λ (a : Answered Run).
         AllFit r.table (taken_ticks a.run es) →
         AllFit r.table (taken_by r (Tick mark) a.answer ++ taken_ticks a.run es))
         r

@@ -16,7 +16,7 @@ use Rattle.events.specs.declared.Event.{Event}
 use Rattle.events.specs.declared.Event.TheVariants.{Release, Tick}
 use Rattle.events.specs.declared.Answer.{Answer}
 use Rattle.events.specs.declared.Answer.TheVariants.{Released, Ticked, No}
-use Rattle.run.specs.declared.Answered.{Answered}
+use Rattle.events.specs.declared.Answered.{Answered}
 use Rattle.run.specs.Release.{fresh_run}
 use Rattle.run.specs.Tick.{settle}
 use Rattle.run.specs.Events.{event_of, after, answers}
@@ -73,7 +73,7 @@ module _ (f : TickAnswer → ℕ) where
   unfolding over_ticks
   over_now r (Release k) es =
       release_ind
-      (λ (a : Answered).
+      (λ (a : Answered Run).
       over_all (by_tick f) (answers a.run es) ≡ over_ticks (λ m. f m.answer) (taken_ticks a.run es) →
       by_tick f a.answer + over_all (by_tick f) (answers a.run es) ≡
       over_ticks (λ m. f m.answer) (taken_ticks a.run es))
@@ -83,7 +83,7 @@ module _ (f : TickAnswer → ℕ) where
       (λ y h. omega arith)
   over_now r (Tick mark) es =
       tick_ind
-      (λ (a : Answered).
+      (λ (a : Answered Run).
       over_all (by_tick f) (answers a.run es) ≡ over_ticks (λ m. f m.answer) (taken_ticks a.run es) →
       by_tick f a.answer + over_all (by_tick f) (answers a.run es) ≡
       over_ticks (λ m. f m.answer) (taken_by r (Tick mark) a.answer ++ taken_ticks a.run es))
@@ -122,7 +122,7 @@ unfolding over_ticks
 discarded_now r (Release j) es k h = omega arith
 discarded_now r (Tick mark) es k h =
     tick_ind
-    (λ (a : Answered).
+    (λ (a : Answered Run).
     discarded_of a.run es k ≡ over_ticks (λ m. m.discarded k) (taken_ticks a.run es) →
     if_ticked a.answer ((settle r.table r.state mark).discarded k) + discarded_of a.run es k ≡
     over_ticks (λ m. m.discarded k) (taken_by r (Tick mark) a.answer ++ taken_ticks a.run es))
@@ -142,11 +142,11 @@ discarded_taken r (e ∷ es) k = discarded_now r e es k (discarded_taken (event_
 ticks_now : (r : Run) (e : Event) →
     (event_of r e).run.state.ticks.0 ≡ r.state.ticks.0 + length (taken_by r e (event_of r e).answer)
 ticks_now r (Release k) =
-    release_ind (λ (a : Answered). a.run.state.ticks.0 ≡ r.state.ticks.0 + 0) r k (λ why. omega arith)
+    release_ind (λ (a : Answered Run). a.run.state.ticks.0 ≡ r.state.ticks.0 + 0) r k (λ why. omega arith)
     (λ y. omega arith)
 ticks_now r (Tick mark) =
     tick_ind
-    (λ (a : Answered). a.run.state.ticks.0 ≡ r.state.ticks.0 + length (taken_by r (Tick mark) a.answer))
+    (λ (a : Answered Run). a.run.state.ticks.0 ≡ r.state.ticks.0 + length (taken_by r (Tick mark) a.answer))
     r
     mark
     (λ why. omega arith)

@@ -26,7 +26,7 @@ use Rattle.events.specs.declared.Event.{Event}
 use Rattle.events.specs.declared.Event.TheVariants.{Release, Tick}
 use Rattle.events.specs.declared.Left.{Left}
 use Rattle.events.specs.declared.Left.TheVariants.{Done, Cut}
-use Rattle.run.specs.declared.Answered.{Answered}
+use Rattle.events.specs.declared.Answered.{Answered}
 use Rattle.run.specs.State.{waiting_at, runs_at}
 use Rattle.run.specs.Sound.{sound}
 use Rattle.run.specs.Release.{fresh_run, refused}
@@ -230,7 +230,7 @@ event_at_most : (most : ℕ) (r : Run) (e : Event) → RunShaped r →
     ReleasesOf (λ k. height (task_at r.table k).level ≤ most) (e ∷ []) → AtMost most r →
     AtMost most (event_of r e).run
 event_at_most most r (Tick mark) h so a =
-    tick_ind (λ (z : Answered). AtMost most z.run) r mark (λ why. a)
+    tick_ind (λ (z : Answered Run). AtMost most z.run) r mark (λ why. a)
     (λ y.
     let t = r.table in
     let s = r.state in
@@ -239,7 +239,7 @@ event_at_most most r (Tick mark) h so a =
     y.sound
     a)
 event_at_most most r (Release k) h so a =
-    release_ind (λ (z : Answered). AtMost most z.run) r k (λ why. a)
+    release_ind (λ (z : Answered Run). AtMost most z.run) r k (λ why. a)
     (λ y. record { mode = a.mode; level = λ j l w. level y j l w (same_or_not k j) })
   where
     level : ReleaseTaken r k → (j : ℕ) → j < r.table.ntasks → 0 < waiting_at (release_taken r k).run.state j →
@@ -280,13 +280,13 @@ pub panel_alone_stays_in_n : PanelAloneStaysInN
 panel_alone_stays_in_n t es z so = lowest _ (no_higher_than_released t es 0 z (all_low t es so))
 
 -- Two answered ticks that differ in how the job left, and in nothing else.
-record ButLeft (k : ℕ) (cut done : Answered) : Type 0 where
+record ButLeft (k : ℕ) (cut done : Answered Run) : Type 0 where
   left : cut.answer ≡ left_as (Cut k) cut.answer
   answer : done.answer ≡ left_as (Done k) cut.answer
   run : done.run ≡ cut.run
 
 -- A tick, its mark being taken: by the tests of 13 and 10, what is answered.
-abbrev answered : Run → Bool → Bool → Stepped → Answered
+abbrev answered : Run → Bool → Bool → Stepped → Answered Run
 answered r safe few d =
     unless safe say refused r Unsound
     else unless few say refused r CountSpent
@@ -296,7 +296,7 @@ module _ (r : Run) (k : ℕ) (last : r.state.last ≡ Some k) where
   abbrev few : Bool
   few = ltb r.state.ticks.0 4000000000
 
-  abbrev tick : Left → Answered
+  abbrev tick : Left → Answered Run
   tick l = answered r (sound r) few (tick_from r.table r.state (without_front r.state k) l)
 
   ended_by_mark : tick_of r true ≡ tick (Done k)

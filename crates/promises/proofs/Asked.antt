@@ -49,6 +49,7 @@ use Rattle.promises.specs.Condition1.{Asked, no◌at◌unless◌, Tells, Gives, 
 use Rattle.promises.specs.Condition1.{IsLevel, kind_at, partition_at, fault_asked, asked_by}
 use Rattle.promises.specs.Condition1.{line_asked, EachFault}
 use Rattle.promises.proofs.Tests.{Tests, is_le, is_lt, is_eq, is_in, both, ◌and◌}
+use Rattle.units.specs.declared.Ticks.{Ticks}
 
 -- what is told of a standing is what its questions tell
 pub record Told (s : Standing) (qs : List {1} Asked) : Type 0 where
@@ -292,7 +293,7 @@ stays Timed home degraded = (λ e t. eqb-true degraded home e, λ f. eq-eqb degr
 stays Event home degraded = (λ e t. absurd (clash false (ap is_timed t) refl), λ f. refl)
 
 -- 41 to 45
-fault_told : (ss : List Server) (home degraded : ℕ) (limit : ByMode) →
+fault_told : (ss : List Server) (home degraded : ℕ) (limit : ByMode Ticks) →
     Told (task_fault ss home degraded limit) (fault_asked ss home degraded limit)
 unfolding task_fault
 fault_told ss home degraded limit =

@@ -22,7 +22,7 @@ use Rattle.events.specs.Boxes.{answers_in}
 use Rattle.run.specs.declared.Run.{Run}
 use Rattle.events.specs.declared.Event.{Event}
 use Rattle.events.specs.declared.Event.TheVariants.{Release, Tick}
-use Rattle.run.specs.declared.Answered.{Answered}
+use Rattle.events.specs.declared.Answered.{Answered}
 use Rattle.events.specs.declared.TickAnswer.{TickAnswer}
 use Rattle.run.specs.State.{fresh}
 use Rattle.run.specs.Sound.{sound, sound_state}
@@ -109,7 +109,7 @@ unfolding taken_ticks tick_answers answers_in
 from_the_answers r [] = refl
 from_the_answers r (Release k ∷ es) =
     release_ind
-    (λ (a : Answered).
+    (λ (a : Answered Run).
     answers_of (taken_ticks a.run es) ≡ tick_answer a.answer ++ tick_answers (answers a.run es))
     r
     k
@@ -117,7 +117,7 @@ from_the_answers r (Release k ∷ es) =
     (λ y. from_the_answers (release_taken r k).run es)
 from_the_answers r (Tick mark ∷ es) =
     tick_ind
-    (λ (a : Answered).
+    (λ (a : Answered Run).
     answers_of (taken_by r (Tick mark) a.answer ++ taken_ticks a.run es) ≡
     tick_answer a.answer ++ tick_answers (answers a.run es))
     r

@@ -19,7 +19,7 @@ use Rattle.events.specs.declared.Event.{Event}
 use Rattle.events.specs.declared.Event.TheVariants.{Release, Tick}
 use Rattle.events.specs.declared.TickAnswer.{TickAnswer}
 use Rattle.events.specs.declared.Answer.TheVariants.{Released, Ticked}
-use Rattle.run.specs.declared.Answered.{Answered}
+use Rattle.events.specs.declared.Answered.{Answered}
 use Rattle.run.specs.Sound.{sound}
 use Rattle.events.specs.Answers.{no_of}
 use Rattle.run.specs.Tick.{tick_taken}
@@ -56,14 +56,14 @@ starts_fresh t =
 pub every_release : EveryRelease
 every_release r k z h =
     release_ind
-    (λ (a : Answered). a ≡ record { answer = Released k; run = z } → JobAdded r k z)
+    (λ (a : Answered Run). a ≡ record { answer = Released k; run = z } → JobAdded r k z)
     r
     k
     (λ why e.
-    let d = ap (λ (a : Answered). a.answer) e in
+    let d = ap (λ (a : Answered Run). a.answer) e in
     let n : ◌≡◌ {A = ℕ} 0 1 = cc in
     absurd (omega arith))
-    (λ y e. subst (JobAdded r k) (ap (λ (a : Answered). a.run) e) (added y))
+    (λ y e. subst (JobAdded r k) (ap (λ (a : Answered Run). a.run) e) (added y))
   where
     added : ReleaseTaken r k → JobAdded r k (release_taken r k).run
     added y =
@@ -84,23 +84,23 @@ pub every_tick : EveryTick
 every_tick x h =
     let r = x.before in
     tick_ind
-    (λ (a : Answered). a ≡ record { answer = Ticked x.says; run = x.after } → ByTheRules x)
+    (λ (a : Answered Run). a ≡ record { answer = Ticked x.says; run = x.after } → ByTheRules x)
     r
     x.mark
     (λ why e.
-    let d = ap (λ (a : Answered). a.answer) e in
+    let d = ap (λ (a : Answered Run). a.answer) e in
     let z : ◌≡◌ {A = ℕ} 0 1 = cc in
     absurd (omega arith))
     (λ y e.
     let shape = held_shaped r h.held in
-    let d = ap (λ (a : Answered). a.answer) e in
+    let d = ap (λ (a : Answered Run). a.answer) e in
     let says : (tick_taken r.table r.state x.mark).answer ≡ x.says = cc in
     subst
     ByTheRules
     (ap₂
     (λ (a : TickAnswer) (z : Run). record { before = r; mark = x.mark; says = a; after = z })
     says
-    (ap (λ (a : Answered). a.run) e))
+    (ap (λ (a : Answered Run). a.run) e))
     (by_the_rules r.table r.state x.mark
     (table_rules r.table shape.table (sound_table r y.sound))
     shape.state

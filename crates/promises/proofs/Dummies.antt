@@ -15,7 +15,7 @@ use Rattle.run.specs.declared.Run.{Run}
 use Rattle.run.specs.declared.State.{State}
 use Rattle.events.specs.declared.Event.TheVariants.{Tick}
 use Rattle.events.specs.declared.Answer.{Answer}
-use Rattle.run.specs.declared.Answered.{Answered}
+use Rattle.events.specs.declared.Answered.{Answered}
 use Rattle.events.specs.Answers.{no_of}
 use Rattle.run.specs.Release.{fresh_run}
 use Rattle.run.specs.Tick.{tick_of}
@@ -46,7 +46,7 @@ pub no_release : NoRelease
 unfolding opened
 no_release f h d =
     let r = fresh_run example in
-    let e : no_of (f r 0).answer ≡ 0 = ap (λ (a : Answered). no_of a.answer) (h r 0 held_example) in
+    let e : no_of (f r 0).answer ≡ 0 = ap (λ (a : Answered Run). no_of a.answer) (h r 0 held_example) in
     omega (arith, e, d r 0 held_example)
 
 pub no_verdict : NoVerdict
@@ -74,9 +74,9 @@ held_start = shaped_held shaped
 held_next : RunSized next
 held_next = shaped_held (event_run_shaped start (Tick false) shaped)
 
-module _ (f : Run → Bool → Answered) (h : Ticks f) where
+module _ (f : Run → Bool → Answered Run) (h : Ticks f) where
   first : (f start false).answer ≡ (tick_of start false).answer
-  first = ap (λ (a : Answered). a.answer) (h start false held_start)
+  first = ap (λ (a : Answered Run). a.answer) (h start false held_start)
 
   refuses : RefusesEverything f → ⊥
   unfolding opened
@@ -90,15 +90,15 @@ module _ (f : Run → Bool → Answered) (h : Ticks f) where
   unfolding opened
   untouched d =
       let e : (f start false).run.state.ticks.0 ≡ 1 =
-      ap (λ (a : Answered). a.run.state.ticks.0) (h start false held_start) in
+      ap (λ (a : Answered Run). a.run.state.ticks.0) (h start false held_start) in
       omega (arith, e, ap (λ (s : State). s.ticks.0) (d start false _ held_start first))
 
   repeats : Repeats f → ⊥
   unfolding opened
   repeats d =
       let second =
-      ap (λ (r : Run). (f r false).answer) (ap (λ (a : Answered). a.run) (h start false held_start)) ∙
-      ap (λ (a : Answered). a.answer) (h next false held_next) in
+      ap (λ (r : Run). (f r false).answer) (ap (λ (a : Answered Run). a.run) (h start false held_start)) ∙
+      ap (λ (a : Answered Run). a.answer) (h next false held_next) in
       let e = d start false false _ _ held_start first second in
       let z : ◌≡◌ {A = ℕ} 0 1 = cc in
       omega arith

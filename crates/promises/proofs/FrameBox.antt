@@ -34,7 +34,7 @@ use Rattle.frametable.proofs.Text.{frame_rows_keep as rows_keep, frame_refused_n
 use Rattle.frametable.proofs.TextExactly.{frame_read_exactly}
 use Rattle.framerun.specs.declared.FrameState.{FrameState}
 use Rattle.framerun.specs.declared.FrameRun.{FrameRun}
-use Rattle.framerun.specs.declared.FrameAnswered.{FrameAnswered}
+use Rattle.events.specs.declared.Answered.{Answered}
 use Rattle.framerun.specs.State.{queues_of, waiting_at, runs_at}
 use Rattle.framerun.specs.Tick.{Settled, settle, highest_task, turn_at, tick_taken}
 use Rattle.framerun.proofs.Taken.{tick_ind}
@@ -158,7 +158,7 @@ taken_says r mark apart =
 pub each_tick : EachTick
 each_tick r mark a sized =
     tick_ind
-    (λ (x : FrameAnswered).
+    (λ (x : Answered FrameRun).
     x.answer ≡ Ticked a → SaysSo r.table (settle r.table r.state mark r.state.last).state a)
     r
     mark
@@ -228,7 +228,7 @@ pub each_leaving : EachLeaving
 unfolding tick_taken
 each_leaving r mark a e k =
     tick_ind
-    (λ (x : FrameAnswered).
+    (λ (x : Answered FrameRun).
     x.answer ≡ Ticked a →
     ((a.left ≡ Done k) ↔ ((mark ≡ true) × (r.state.last ≡ Some k))) ×
     ((a.left ≡ Cut k) ↔

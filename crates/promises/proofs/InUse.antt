@@ -30,7 +30,7 @@ use Rattle.run.specs.declared.Run.{Run}
 use Rattle.events.specs.declared.Event.{Event}
 use Rattle.events.specs.declared.Event.TheVariants.{Release, Tick}
 use Rattle.events.specs.declared.Answer.TheVariants.{Ticked}
-use Rattle.run.specs.declared.Answered.{Answered}
+use Rattle.events.specs.declared.Answered.{Answered}
 use Rattle.run.specs.State.{waiting_at}
 use Rattle.run.specs.Sound.{sound_server, sound_task, sound_last, sound_counts, sound_state}
 use Rattle.run.specs.Sound.{sound}
@@ -136,7 +136,7 @@ module _ {r q : Run} (h : SameInUse r q) where
       (both counts_tests refl))))
 
 -- One event, taken or refused.
-abbrev Alike : Answered → Answered → Type 0
+abbrev Alike : Answered Run → Answered Run → Type 0
 Alike a b = (a.answer ≡ b.answer) × SameInUse a.run b.run
 
 module _ (r q : Run) (shape : RunShaped r) (shape' : RunShaped q) (h : SameInUse r q) where
@@ -165,7 +165,7 @@ module _ (r q : Run) (shape : RunShaped r) (shape' : RunShaped q) (h : SameInUse
   release_same : (k : ℕ) → Alike (release_of r k) (release_of q k)
   unfolding release_of
   release_same k =
-      release_cases (λ (a : Answered). Alike a (release_of q k)) r k (λ a. rw (safe ∙ a) (refl, h))
+      release_cases (λ (a : Answered Run). Alike a (release_of q k)) r k (λ a. rw (safe ∙ a) (refl, h))
       (λ a b. rw (safe ∙ a, there ∙ b) (refl, h))
       (λ a b c. rw (safe ∙ a, there ∙ b, level b ∙ c) (refl, h))
       (λ a b c d. rw (safe ∙ a, there ∙ b, level b ∙ c, room b ∙ d) (refl, h))
@@ -205,7 +205,7 @@ module _ (r q : Run) (shape : RunShaped r) (shape' : RunShaped q) (h : SameInUse
   tick_same : (mark : Bool) → Alike (tick_of r mark) (tick_of q mark)
   unfolding tick_of
   tick_same mark =
-      tick_cases (λ (a : Answered). Alike a (tick_of q mark)) r mark (λ a. rw (safe ∙ a) (refl, h))
+      tick_cases (λ (a : Answered Run). Alike a (tick_of q mark)) r mark (λ a. rw (safe ∙ a) (refl, h))
       (λ a b. rw (safe ∙ a, job ∙ b) (refl, h))
       (λ a b c. rw (safe ∙ a, job ∙ b, count ∙ c) (refl, h))
       (λ y.

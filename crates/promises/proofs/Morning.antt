@@ -34,7 +34,7 @@ use Rattle.events.specs.declared.Event.{Event}
 use Rattle.events.specs.declared.Event.TheVariants.{Release, Tick}
 use Rattle.events.specs.declared.Answer.{Answer}
 use Rattle.events.specs.declared.Answer.TheVariants.{Released, Ticked, No}
-use Rattle.run.specs.declared.Answered.{Answered}
+use Rattle.events.specs.declared.Answered.{Answered}
 use Rattle.run.specs.State.{waits}
 use Rattle.events.specs.Answers.{one, no_of, charged}
 use Rattle.run.specs.Release.{fresh_run}
@@ -154,7 +154,7 @@ over_zero f t h r (x ∷ es) e = now x (over_zero f t h (event_of r x).run es (e
     now (Release k) rest = rest
     now (Tick mark) rest =
         tick_ind
-        (λ (a : Answered).
+        (λ (a : Answered Run).
         over_ticks f (taken_ticks a.run es) ≡ 0 →
         over_ticks f (taken_by r (Tick mark) a.answer ++ taken_ticks a.run es) ≡ 0)
         r

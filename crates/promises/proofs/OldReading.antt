@@ -47,6 +47,7 @@ use Rattle.promises.specs.OldReading.{old_standing, old_grown, OldAnswer, old_re
 use Rattle.promises.specs.OldReading.{old_pair_said, old_compared, old_ended, old_line_said}
 use Rattle.promises.specs.OldReading.{old_read_from, old_read, number_before, as_before}
 use Rattle.promises.specs.OldReading.{NothingElseMoved}
+use Rattle.units.specs.declared.Ticks.{Ticks}
 
 -- What a line said before: each field is what is expected there, and there is none beyond.
 abbrev before : Line → OldLine
@@ -135,7 +136,7 @@ tests_before p bs cs f =
     go true None None = refl
 
 -- 41 to 45: absent rows and falling limits are parted by field
-fault_before : (ss : List Server) (home degraded : ℕ) (limit : ByMode) →
+fault_before : (ss : List Server) (home degraded : ℕ) (limit : ByMode Ticks) →
     number (task_fault ss home degraded limit) ≡ old_task_fault ss home degraded limit
 unfolding task_fault old_task_fault
 fault_before ss home degraded limit =

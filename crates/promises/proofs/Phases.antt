@@ -30,7 +30,7 @@ use Rattle.table.proofs.Rules.{TableRules, table_rules}
 use Rattle.verdict.specs.Verdict.{demand, interference, meets, response_at, told, verdict_of}
 use Rattle.verdict.specs.declared.Verdict.TheVariants.{No}
 use Rattle.table.specs.declared.Refusal.TheVariants.{NoServer}
-use Rattle.verdict.specs.declared.RowVerdicts.{RowVerdicts}
+use Rattle.table.specs.declared.ByMode.{ByMode}
 use Rattle.verdict.specs.Fits.{row_verdicts, verdicts_of, from_verdicts, fits_of}
 use Rattle.events.specs.declared.Answer.{Answer}
 use Rattle.events.specs.declared.Answer.TheVariants.{Ticked}
@@ -42,7 +42,7 @@ use Rattle.events.specs.Answers.{charged}
 use Rattle.events.specs.Boxes.{after_in, answers_in}
 use Rattle.run.specs.declared.State.{State}
 use Rattle.run.specs.declared.Run.{Run}
-use Rattle.run.specs.declared.Answered.{Answered}
+use Rattle.events.specs.declared.Answered.{Answered}
 use Rattle.run.specs.State.{used_at, elapsed_at, started, in_force, passes, waits, with_budgets, with_counts}
 use Rattle.run.specs.Sound.{sound_server, sound_state, sound}
 use Rattle.run.specs.Release.{release_of}
@@ -64,6 +64,7 @@ use Rattle.promises.specs.Phases.{late, P9Reached}
 use Rattle.promises.proofs.ByTheRules.{held_shaped}
 use Rattle.promises.proofs.Ticks.{no_tick, tick_at, Told, tick_on, told_one, told_more}
 use Rattle.promises.proofs.Opened.{opened}
+use Rattle.verdict.specs.declared.Verdict.{Verdict}
 
 -- A tick before the phase.
 Unmoved : Table → ℕ → TickAnswer → State → Type 0
@@ -104,17 +105,17 @@ unfolding Unmoved
 before_its_phase x i h l p =
     let r = x.before in
     tick_ind
-    (λ (a : Answered). a ≡ record { answer = Ticked x.says; run = x.after } →
+    (λ (a : Answered Run). a ≡ record { answer = Ticked x.says; run = x.after } →
     Unmoved (table x) i x.says (new x))
     r
     x.mark
     (λ why e.
-    let d = ap (λ (a : Answered). a.answer) e in
+    let d = ap (λ (a : Answered Run). a.answer) e in
     let z : ◌≡◌ {A = ℕ} 0 1 = cc in
     absurd (omega arith))
     (λ y e.
     let shape = held_shaped r h.held in
-    let d = ap (λ (a : Answered). a.answer) e in
+    let d = ap (λ (a : Answered Run). a.answer) e in
     let says : (tick_taken r.table r.state x.mark).answer ≡ x.says = cc in
     let number : x.says.tick.0 ≡ r.state.ticks.0 =
     ap (λ (a : TickAnswer). a.tick.0) (sym says) ∙ ap (λ (n : Ticks). n.0) (answer_tick r.table r.state x.mark) in
@@ -131,7 +132,7 @@ before_its_phase x i h l p =
     says
     (subst
     (λ (z : Run). Unmoved (table x) i (tick_taken r.table r.state x.mark).answer z.state)
-    (ap (λ (a : Answered). a.run) e)
+    (ap (λ (a : Answered Run). a.run) e)
     m))
     h.taken
 
@@ -142,7 +143,7 @@ unfolding taken_ticks
 ticks_told r [] x h = absurd (omega arith)
 ticks_told r (Release k ∷ es) x h =
     release_ind
-    (λ (a : Answered). x < length (taken_ticks a.run es) → Told r.table (tick_at (taken_ticks a.run es) x))
+    (λ (a : Answered Run). x < length (taken_ticks a.run es) → Told r.table (tick_at (taken_ticks a.run es) x))
     r
     k
     (λ why. ticks_told r es x)
@@ -150,7 +151,7 @@ ticks_told r (Release k ∷ es) x h =
     h
 ticks_told r (Tick mark ∷ es) x h =
     tick_ind
-    (λ (a : Answered). x < length (taken_by r (Tick mark) a.answer ++ taken_ticks a.run es) →
+    (λ (a : Answered Run). x < length (taken_by r (Tick mark) a.answer ++ taken_ticks a.run es) →
     Told r.table (tick_at (taken_by r (Tick mark) a.answer ++ taken_ticks a.run es) x))
     r
     mark
@@ -252,7 +253,7 @@ module _ (t u : Table) (h : all_at_once t ≡ all_at_once u) where
       let same : row_verdicts t ≡ row_verdicts u =
       fun_ext
       (λ (i : ℕ). rw (verdict e g i N, verdict e g i D1, verdict e g i D2)) in
-      rw (e, g) (ap (λ (rows : ℕ → RowVerdicts). from_verdicts (listed 32 rows)) same)
+      rw (e, g) (ap (λ (rows : ℕ → ByMode Verdict). from_verdicts (listed 32 rows)) same)
 
 pub verdicts_unchanged : VerdictsUnchanged
 verdicts_unchanged t u e g h = (verdict t u h e g, fit t u h e g)
@@ -344,15 +345,15 @@ answers_was r [] n = refl
 answers_was r (e ∷ es) n =
     let q = event_was r e n in
     ap₂ (λ (a : Answer) (more : List Answer). a ∷ more)
-    (ap (λ (d : Answered). d.answer) q)
-    (answers_was (event_of r e).run es (stay r e n) ∙ ap (λ (d : Answered). answers_in base_box d.run es) q)
+    (ap (λ (d : Answered Run). d.answer) q)
+    (answers_was (event_of r e).run es (stay r e n) ∙ ap (λ (d : Answered Run). answers_in base_box d.run es) q)
 
 after_was : (r : Run) (es : List Event) → no_phases r.table ≡ true → after r es ≡ after_in base_box r es
 unfolding after_in
 after_was r [] n = refl
 after_was r (e ∷ es) n =
     after_was (event_of r e).run es (stay r e n)
-    ∙ ap (λ (d : Answered). after_in base_box d.run es) (event_was r e n)
+    ∙ ap (λ (d : Answered Run). after_in base_box d.run es) (event_was r e n)
 
 pub all_phases_0 : AllPhases0
 all_phases_0 = (table_was, λ r es n. (answers_was r es n, after_was r es n))

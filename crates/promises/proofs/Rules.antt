@@ -48,6 +48,7 @@ use Rattle.promises.specs.Condition1.{ServerRow, TaskRow, TableExactly, SoundTas
 use Rattle.promises.specs.Condition1.{SoundExactly}
 use Rattle.promises.proofs.Tests.{Tests, is_le, is_lt, is_eq, is_in, both, ◌and◌}
 use Rattle.promises.proofs.Asked.{faults}
+use Rattle.units.specs.declared.Ticks.{Ticks}
 
 -- each test of a list, and all of them
 infixr 5 ◌also◌
@@ -74,7 +75,7 @@ is_kept_lem (Broken why field) = (
   λ p. ap is_kept ((standing_0 (Broken why field)).0 p.0),
 )
 
-task_fits : (ss : List Server) (home degraded : ℕ) (limit : ByMode) →
+task_fits : (ss : List Server) (home degraded : ℕ) (limit : ByMode Ticks) →
     Tests (is_kept (task_fault ss home degraded limit)) (TaskFits ss home degraded limit)
 task_fits ss home degraded limit =
     Iff.trans (is_kept_lem (task_fault ss home degraded limit)) (faults ss home degraded limit).none

@@ -26,7 +26,7 @@ use Rattle.events.specs.declared.Event.{Event}
 use Rattle.events.specs.declared.Event.TheVariants.{Release, Tick}
 use Rattle.events.specs.declared.Turn.TheVariants.{Idle}
 use Rattle.events.specs.declared.Left.TheVariants.{Nobody}
-use Rattle.run.specs.declared.Answered.{Answered}
+use Rattle.events.specs.declared.Answered.{Answered}
 use Rattle.run.specs.State.{used_at, elapsed_at, started, in_force, passes, fresh}
 use Rattle.events.specs.Answers.{charged}
 use Rattle.run.specs.Release.{with_job}
@@ -152,7 +152,7 @@ unfolding taken_ticks
 follows r [] few shape = follows_none r.table r.state
 follows r (Release k ∷ es) few shape =
     release_ind
-    (λ (a : Answered). Follows r.table r.state (taken_ticks a.run es))
+    (λ (a : Answered Run). Follows r.table r.state (taken_ticks a.run es))
     r
     k
     (λ why. follows r es few shape)
@@ -165,7 +165,7 @@ follows r (Release k ∷ es) few shape =
     (follows (release_taken r k).run es few (job_shaped r.state k shape)))
 follows r (Tick mark ∷ es) few shape =
     tick_ind
-    (λ (a : Answered). Follows r.table r.state (taken_by r (Tick mark) a.answer ++ taken_ticks a.run es))
+    (λ (a : Answered Run). Follows r.table r.state (taken_by r (Tick mark) a.answer ++ taken_ticks a.run es))
     r
     mark
     (λ why. follows r es few shape)

@@ -49,7 +49,7 @@ use Rattle.verdict.specs.declared.Verdict.TheVariants.{Response, Misses, No}
 use Rattle.verdict.specs.Verdict.{verdict_of}
 use Rattle.run.specs.declared.State.{State}
 use Rattle.run.specs.declared.Run.{Run}
-use Rattle.run.specs.declared.Begun.{Begun}
+use Rattle.events.specs.declared.Begun.{Begun}
 use Rattle.events.specs.declared.Event.{Event}
 use Rattle.events.specs.declared.Event.TheVariants.{Release, Tick}
 use Rattle.run.specs.State.{used_at, elapsed_at, waiting_at, runs_at, with_counts}
@@ -314,13 +314,13 @@ rows_asked ss home degraded =
     ∷ []
 
 -- 45. "limits for N, D1, D2, each rounded up to a tick, then 1 to 100,000 and not falling"
-abbrev pub limits_asked : ByMode → List {1} Asked
+abbrev pub limits_asked : ByMode Ticks → List {1} Asked
 limits_asked limit =
     (no 45 at 6 unless (limit.n.0 ≤ limit.d1.0))
     ∷ (no 45 at 7 unless (limit.d1.0 ≤ limit.d2.0))
     ∷ []
 
-abbrev pub fault_asked : List Server → ℕ → ℕ → ByMode → List {1} Asked
+abbrev pub fault_asked : List Server → ℕ → ℕ → ByMode Ticks → List {1} Asked
 fault_asked ss home degraded limit = rows_asked ss home degraded ++ limits_asked limit
 
 -- the server rows that a task names are right: 45 is told only then
@@ -328,7 +328,7 @@ abbrev pub RowsFit : List Server → ℕ → ℕ → Type 0
 RowsFit ss home degraded = AllHold (rows_asked ss home degraded)
 
 -- a task has none of these faults: 13 asks it of a task's row by the same questions
-abbrev pub TaskFits : List Server → ℕ → ℕ → ByMode → Type 0
+abbrev pub TaskFits : List Server → ℕ → ℕ → ByMode Ticks → Type 0
 TaskFits ss home degraded limit = AllHold (fault_asked ss home degraded limit)
 
 -- A line below a `server` line. "priority 1 to 255, greater first; level; limits for N, D1, D2,
@@ -376,7 +376,7 @@ EachLine =
     Tells (line_asked n a (split tab line)) number field
 
 -- 41 to 45 one by one, of the rows that a task names and of its limits
-pub record FaultNumbers (ss : List Server) (home degraded : ℕ) (limit : ByMode) (s : Standing) :
+pub record FaultNumbers (ss : List Server) (home degraded : ℕ) (limit : ByMode Ticks) (s : Standing) :
     Type 0 where
   -- "absent server row": of the home, else of the degraded server
   pub no_41_home : Gives s 41 1 ↔ (length ss ≤ home)
@@ -409,7 +409,7 @@ pub record FaultNumbers (ss : List Server) (home degraded : ℕ) (limit : ByMode
 
 abbrev pub EachFault : Type 0
 EachFault =
-    (ss : List Server) (home degraded : ℕ) (limit : ByMode) →
+    (ss : List Server) (home degraded : ℕ) (limit : ByMode Ticks) →
     FaultNumbers ss home degraded limit (task_fault ss home degraded limit)
 
 -- A TABLE AND A STATE THAT ARE HANDED IN, number 13: "a table or state handed in breaks the rules
@@ -509,7 +509,7 @@ SoundExactly =
     ∷ [])
 
 -- A START, number 13. What comes back is the table as it was, beside a fresh state.
-pub record StartNumbers (t : Table) (b : Begun) : Type 0 where
+pub record StartNumbers (t : Table) (b : Begun Run) : Type 0 where
   pub no_13 : (starting_number b.answer ≡ 13) ↔ (table_keeps t ≡ false)
   pub taken : (starting_number b.answer ≡ 0) ↔ (table_keeps t ≡ true)
   pub as_it_was : b.run ≡ fresh_run t

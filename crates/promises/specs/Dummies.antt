@@ -16,7 +16,7 @@ use Rattle.run.specs.declared.Run.{Run}
 use Rattle.events.specs.declared.Turn.TheVariants.{Idle}
 use Rattle.events.specs.declared.TickAnswer.{TickAnswer}
 use Rattle.events.specs.declared.Answer.TheVariants.{Ticked}
-use Rattle.run.specs.declared.Answered.{Answered}
+use Rattle.events.specs.declared.Answered.{Answered}
 use Rattle.run.specs.State.{used_at, waiting_at}
 use Rattle.events.specs.Answers.{no_of, charged}
 use Rattle.run.specs.Release.{release_of}
@@ -28,10 +28,10 @@ use Rattle.promises.specs.Condition2.{RunSized}
 abbrev pub Reads : (List ℕ → Read) → Type 0
 Reads f = (text : List ℕ) → f text ≡ shown (read text)
 
-abbrev pub Releases : (Run → ℕ → Answered) → Type 0
+abbrev pub Releases : (Run → ℕ → Answered Run) → Type 0
 Releases f = (r : Run) (k : ℕ) → RunSized r → f r k ≡ release_of r k
 
-abbrev pub Ticks : (Run → Bool → Answered) → Type 0
+abbrev pub Ticks : (Run → Bool → Answered Run) → Type 0
 Ticks f = (r : Run) (mark : Bool) → RunSized r → f r mark ≡ tick_of r mark
 
 abbrev pub Judges : (Table → ℕ → Mode → Verdict) → Type 0
@@ -44,32 +44,32 @@ NoReader =
 
 abbrev pub NoRelease : Type 0
 NoRelease =
-    (f : Run → ℕ → Answered) → Releases f →
+    (f : Run → ℕ → Answered Run) → Releases f →
     ((r : Run) (k : ℕ) → RunSized r → 1 ≤ no_of (f r k).answer) → ⊥
 
-abbrev pub RefusesEverything : (Run → Bool → Answered) → Type 0
+abbrev pub RefusesEverything : (Run → Bool → Answered Run) → Type 0
 RefusesEverything f = (r : Run) (mark : Bool) → RunSized r → 1 ≤ no_of (f r mark).answer
 
 -- "one always idle": each tick that it takes says so
-abbrev pub AlwaysIdle : (Run → Bool → Answered) → Type 0
+abbrev pub AlwaysIdle : (Run → Bool → Answered Run) → Type 0
 AlwaysIdle f =
     (r : Run) (mark : Bool) (a : TickAnswer) → RunSized r → (f r mark).answer ≡ Ticked a → a.turn ≡ Idle
 
 -- "a run that hands its state back untouched", though it takes the tick
-abbrev pub Untouched : (Run → Bool → Answered) → Type 0
+abbrev pub Untouched : (Run → Bool → Answered Run) → Type 0
 Untouched f =
     (r : Run) (mark : Bool) (a : TickAnswer) → RunSized r → (f r mark).answer ≡ Ticked a →
     (f r mark).run.state ≡ r.state
 
 -- "one that schedules the first tick and repeats that answer": of two ticks taken one after the
 -- other the second says what the first did
-abbrev pub Repeats : (Run → Bool → Answered) → Type 0
+abbrev pub Repeats : (Run → Bool → Answered Run) → Type 0
 Repeats f =
     (r : Run) (mark next : Bool) (a b : TickAnswer) → RunSized r → (f r mark).answer ≡ Ticked a →
     (f (f r mark).run next).answer ≡ Ticked b → b.turn ≡ a.turn
 
 -- "one that reports invented discards or charges", be it on one run only
-pub record Invents (f : Run → Bool → Answered) : Type 0 where
+pub record Invents (f : Run → Bool → Answered Run) : Type 0 where
   pub run : Run
   pub mark : Bool
   pub says : TickAnswer
@@ -77,7 +77,7 @@ pub record Invents (f : Run → Bool → Answered) : Type 0 where
   pub taken : (f run mark).answer ≡ Ticked says
 
 -- what waited is not what waits, left or, as it says, was discarded
-pub record InventsDiscards (f : Run → Bool → Answered) : Type 0 where
+pub record InventsDiscards (f : Run → Bool → Answered Run) : Type 0 where
   pub case : Invents f
   pub discards :
       sum_below case.run.table.ntasks (waiting_at (f case.run case.mark).run.state) +
@@ -86,7 +86,7 @@ pub record InventsDiscards (f : Run → Bool → Answered) : Type 0 where
       sum_below case.run.table.ntasks (waiting_at case.run.state) → ⊥
 
 -- the server that it says was charged is none, has used nothing, or more than the mode allows
-pub record InventsCharges (f : Run → Bool → Answered) : Type 0 where
+pub record InventsCharges (f : Run → Bool → Answered Run) : Type 0 where
   pub case : Invents f
   pub server : ℕ
   pub charge : charged case.says.turn server ≡ 1
@@ -96,7 +96,7 @@ pub record InventsCharges (f : Run → Bool → Answered) : Type 0 where
       (capacity_at case.run.table case.says.mode server <
       used_at (f case.run case.mark).run.state server))
 
-pub record NoDummy (f : Run → Bool → Answered) : Type 0 where
+pub record NoDummy (f : Run → Bool → Answered Run) : Type 0 where
   pub refuses : RefusesEverything f → ⊥
   pub idle : AlwaysIdle f → ⊥
   pub untouched : Untouched f → ⊥
@@ -105,7 +105,7 @@ pub record NoDummy (f : Run → Bool → Answered) : Type 0 where
   pub charges : InventsCharges f → ⊥
 
 abbrev pub NoTick : Type 0
-NoTick = (f : Run → Bool → Answered) → Ticks f → NoDummy f
+NoTick = (f : Run → Bool → Answered Run) → Ticks f → NoDummy f
 
 -- "a verdict that is always "misses"", where there is a capacity
 abbrev pub NoVerdict : Type 0

@@ -8,7 +8,7 @@ use Rattle.table.specs.Rows.{server_at, period_at, capacity_at, is_timed, mode_v
 use Rattle.table.specs.Rules.{table_keeps}
 use Rattle.text.specs.Read.{reading_number, read, shown}
 use Rattle.verdict.specs.declared.Verdict.TheVariants.{Response, Misses}
-use Rattle.verdict.specs.declared.RowVerdicts.{RowVerdicts}
+use Rattle.table.specs.declared.ByMode.{ByMode}
 use Rattle.verdict.specs.declared.Fits.{Fits}
 use Rattle.verdict.specs.declared.Fits.TheVariants.{Yes, Miss}
 use Rattle.verdict.specs.Verdict.{verdict_of}
@@ -20,6 +20,7 @@ use Rattle.run.specs.Release.{fresh_run, start_of}
 use Rattle.run.specs.Found.{TakenTick, taken_ticks}
 use Rattle.fitting.specs.Fits.{run_fits}
 use Rattle.promises.specs.Bounds.{in_row, charges, normal, whole_period, waits_until}
+use Rattle.verdict.specs.declared.Verdict.{Verdict}
 
 -- "A table or state refused by 13 is refused here too." Nothing else is.
 abbrev pub Refused13 : Type 0
@@ -66,7 +67,7 @@ ValuesTell =
 
 -- "The answer must equal the one read from all verdicts written out": they are the verdicts of the
 -- rows, in all three modes.
-pub record Written (t : Table) (i : ℕ) (v : RowVerdicts) : Type 0 where
+pub record Written (t : Table) (i : ℕ) (v : ByMode Verdict) : Type 0 where
   pub n : v.n ≡ verdict_of t i N
   pub d1 : v.d1 ≡ verdict_of t i D1
   pub d2 : v.d2 ≡ verdict_of t i D2
@@ -75,7 +76,7 @@ abbrev pub ReadFromAll : Type 0
 ReadFromAll =
     (t : Table) → table_keeps t ≡ true →
     (fits_of t ≡ from_verdicts (verdicts_of t)) ×
-    ((i : ℕ) (d : RowVerdicts) → i < t.nservers → Written t i (get_or (verdicts_of t) i d))
+    ((i : ℕ) (d : ByMode Verdict) → i < t.nservers → Written t i (get_or (verdicts_of t) i d))
 
 -- 01: "For capacity 0 the response is 0." Such a row is never named.
 abbrev pub WithoutCapacityNever : Type 0

@@ -24,6 +24,7 @@ use Rattle.text.specs.Line.{Expected, fits, Form, tick_form, server_form, task_f
 use Rattle.text.specs.Line.{micros_at, server_said, task_said}
 use Rattle.text.specs.Standing.{is_nil, phase_said, server_of, limits_of, task_of, whole}
 use Rattle.text.specs.Read.{reading_number, ReadRows, read}
+use Rattle.units.specs.declared.Ticks.{Ticks}
 
 -- What a line said: of one that is malformed neither the leading word nor a field.
 pub data OldLine : Type 0 where
@@ -121,12 +122,12 @@ abbrev pub old_rows_there : List Server → ℕ → ℕ → Bool
 old_rows_there ss home degraded = ltb home (length ss) && ltb degraded (length ss)
 
 -- "and not falling"
-abbrev pub old_rising : ByMode → Bool
+abbrev pub old_rising : ByMode Ticks → Bool
 old_rising x = leb x.n.0 x.d1.0 && leb x.d1.0 x.d2.0
 
 -- 4, "server row absent (however great its number), wrong degraded server, falling limits": the
 -- first that applies. Each of the five had the number 4, and 0 is that none does.
-unfoldable pub old_task_fault : List Server → ℕ → ℕ → ByMode → ℕ
+unfoldable pub old_task_fault : List Server → ℕ → ℕ → ByMode Ticks → ℕ
 old_task_fault ss home degraded limit =
     unless old_rows_there ss home degraded say 4
     else unless same_partition ss home degraded say 4

@@ -29,7 +29,7 @@ use Rattle.events.specs.Answers.{charged}
 use Rattle.events.specs.Boxes.{Box, after_in, answers_in}
 use Rattle.run.specs.declared.State.{State}
 use Rattle.run.specs.declared.Run.{Run}
-use Rattle.run.specs.declared.Answered.{Answered}
+use Rattle.events.specs.declared.Answered.{Answered}
 use Rattle.run.specs.State.{used_at, elapsed_at, waiting_at, waits, with_budgets, with_counts}
 use Rattle.run.specs.Sound.{sound_task, sound_last, sound_counts}
 use Rattle.run.specs.Release.{refused, with_job, fresh_run}
@@ -164,7 +164,7 @@ base_tick_taken t s mark =
       state = base_step7 t (step6 t (step5 t z.state turn) turn);
     }
 
-abbrev pub base_event_of : Run → Event → Answered
+abbrev pub base_event_of : Run → Event → Answered Run
 base_event_of r (Release k) =
     unless base_sound r say refused r Unsound
     else unless ltb k r.table.ntasks say refused r NoTask

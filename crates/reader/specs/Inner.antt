@@ -17,7 +17,7 @@ use Rattle.table.specs.declared.Standing.TheVariants.{Kept, Broken}
 use Rattle.table.specs.Rows.{rows_of, table_of}
 use Rattle.table.specs.Rules.{tick_keeps}
 use Rattle.table.specs.Inner.{place_in, rows_fault}
-use Rattle.text.specs.declared.Times.{Times}
+use Rattle.table.specs.declared.ByMode.{ByMode}
 use Rattle.text.specs.declared.ServerLine.{ServerLine}
 use Rattle.text.specs.declared.TaskLine.{TaskLine}
 use Rattle.text.specs.declared.Word.{Word}
@@ -38,7 +38,7 @@ pub record Above (n : ℕ) (t : Table) : Type 0 where
   pub below : 1 < n → tick_keeps t.tick.0 ≡ true
 
 -- Limits of which each, rounded up, is a number of ticks that a row holds.
-abbrev pub FewTicks : ℕ → Times → Type 0
+abbrev pub FewTicks : ℕ → ByMode Micros → Type 0
 FewTicks t x = (up x.n.0 t ≤ 100000) × (up x.d1.0 t ≤ 100000) × (up x.d2.0 t ≤ 100000)
 
 -- What `placed` asks of the rows above is how many there are.

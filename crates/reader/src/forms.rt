@@ -11,8 +11,8 @@ ghost use Rattle.reader.specs.Inner.Lines.{first_word, read_behind, first_read};
 
 use crate::fields;
 use decimal::LINE_FEED;
-use table::{Kind, Level, THE_LINE};
-use text::{Line, ServerLine, TaskLine, Times, Word};
+use table::{ByMode, Kind, Level, THE_LINE};
+use text::{Line, ServerLine, TaskLine, Word};
 use units::Micros;
 
 // Where the fields begin behind a leading word and its tab.
@@ -90,7 +90,7 @@ fn server_line(text: &[u8], from: usize) -> LineRead
     let v = f.values;
     let kind = kind_at(v[1]);
     let phase = last_at(f.count, 8, v[7]);
-    let capacity = Times {
+    let capacity = ByMode {
         n: Micros(v[4]),
         d1: Micros(v[5]),
         d2: Micros(v[6]),
@@ -119,7 +119,7 @@ fn task_line(text: &[u8], from: usize) -> LineRead
     }
     let v = f.values;
     let level = level_at(v[3]);
-    let limit = Times {
+    let limit = ByMode {
         n: Micros(v[4]),
         d1: Micros(v[5]),
         d2: Micros(v[6]),

@@ -9,7 +9,7 @@ ghost use Rattle.text.specs.Standing.{in_ticks, phase_said, server_of, rounded_u
 ghost use Rattle.reader.specs.Inner.{FewTicks};
 
 use table::{ByMode, Server, Task};
-use text::{ServerLine, TaskLine, Times};
+use text::{ServerLine, TaskLine};
 use units::{Micros, Ticks};
 
 // "each rounded up to a tick". A time may be of more ticks than 32 bits hold: its bound is judged
@@ -45,7 +45,7 @@ fn in_ticks(u: Micros, tick: Micros) -> Ticks
     Ticks(n as u32)
 }
 
-pub(crate) fn limits(x: Times, tick: Micros) -> ByMode
+pub(crate) fn limits(x: ByMode<Micros>, tick: Micros) -> ByMode<Ticks>
     requires { (0 < tick.0) × FewTicks tick.0 x }
     ensures { result ≡ limits_of tick.0 x }
 {

@@ -22,7 +22,7 @@ use Rattle.run.specs.declared.State.{State}
 use Rattle.run.specs.declared.Run.{Run}
 use Rattle.events.specs.declared.Event.{Event}
 use Rattle.events.specs.declared.Event.TheVariants.{Release, Tick}
-use Rattle.run.specs.declared.Answered.{Answered}
+use Rattle.events.specs.declared.Answered.{Answered}
 use Rattle.run.specs.State.{queues_of, waiting_at, runs_at, fresh}
 use Rattle.run.specs.Sound.{sound}
 use Rattle.events.specs.Answers.{finished_by, cut_by}
@@ -94,7 +94,7 @@ event_jobs : (r : Run) (e : Event) → RunShaped r → sound r ≡ true →
 event_jobs r (Release k) h q =
     let rules = table_rules r.table h.table (sound_table r q) in
     release_ind
-    (λ (a : Answered).
+    (λ (a : Answered Run).
     sum_below r.table.ntasks (waiting_at a.run.state) +
     (by_left any_finished a.answer + by_left any_cut a.answer) +
     discarded a.answer ≡
@@ -112,7 +112,7 @@ event_jobs r (Release k) h q =
 event_jobs r (Tick mark) h q =
     let rules = table_rules r.table h.table (sound_table r q) in
     tick_ind
-    (λ (a : Answered).
+    (λ (a : Answered Run).
     sum_below r.table.ntasks (waiting_at a.run.state) +
     (by_left any_finished a.answer + by_left any_cut a.answer) +
     discarded a.answer ≡
@@ -130,7 +130,7 @@ event_jobs_of : (r : Run) (e : Event) → RunShaped r → sound r ≡ true → (
 event_jobs_of r (Release j) h q k l =
     let rules = table_rules r.table h.table (sound_table r q) in
     release_ind
-    (λ (a : Answered).
+    (λ (a : Answered Run).
     waiting_at a.run.state k +
     (by_left (λ l. finished_by l k) a.answer + by_left (λ l. cut_by l k) a.answer) +
     0 ≡
@@ -144,7 +144,7 @@ event_jobs_of r (Release j) h q k l =
 event_jobs_of r (Tick mark) h q k l =
     let rules = table_rules r.table h.table (sound_table r q) in
     tick_ind
-    (λ (a : Answered).
+    (λ (a : Answered Run).
     waiting_at a.run.state k +
     (by_left (λ l. finished_by l k) a.answer + by_left (λ l. cut_by l k) a.answer) +
     if_ticked a.answer ((settle r.table r.state mark).discarded k) ≡
@@ -234,11 +234,11 @@ discarded_event : (r : Run) (e : Event) →
     discarded (event_of r e).answer ≡ sum_below r.table.ntasks (discarded_by r e)
 unfolding tick_taken
 discarded_event r (Release k) =
-    release_ind (λ (a : Answered). discarded a.answer ≡ 0) r k (λ why. refl) (λ y. refl) ∙
+    release_ind (λ (a : Answered Run). discarded a.answer ≡ 0) r k (λ why. refl) (λ y. refl) ∙
     sym (sum_zero (λ k. 0) r.table.ntasks (λ k l. refl))
 discarded_event r (Tick mark) =
     tick_ind
-    (λ (a : Answered).
+    (λ (a : Answered Run).
     discarded a.answer ≡
     sum_below r.table.ntasks (λ k. if_ticked a.answer ((settle r.table r.state mark).discarded k)))
     r
@@ -283,7 +283,7 @@ discarded_low r (x ∷ es) k e =
     now (Release j) = refl
     now (Tick mark) =
         tick_ind
-        (λ (a : Answered). if_ticked a.answer ((settle r.table r.state mark).discarded k) ≡ 0)
+        (λ (a : Answered Run). if_ticked a.answer ((settle r.table r.state mark).discarded k) ≡ 0)
         r
         mark
         (λ why. refl)

@@ -18,6 +18,7 @@ use Rattle.table.specs.declared.Task.{Task}
 use Rattle.table.specs.Rows.{in_mode}
 use Rattle.run.specs.declared.Judged.{Judged}
 use Rattle.run.specs.Tick.{height, counts_as, raises, raised, judge}
+use Rattle.units.specs.declared.Ticks.{Ticks}
 
 -- "its run count equals its limit in the present mode": a job that is not at its limit stays, and
 -- so does the mode.
@@ -40,13 +41,13 @@ unfolding judge
 is_cut n k c m h u = rw (eq-eqb c (in_mode k.limit m).0 h, u)
 
 -- limits that do not fall
-pub record Rises (x : ByMode) : Type 0 where
+pub record Rises (x : ByMode Ticks) : Type 0 where
   pub first : (in_mode x N).0 ≤ (in_mode x D1).0
   pub next : (in_mode x D1).0 ≤ (in_mode x D2).0
 
 -- what became of a job of task k that has run c ticks and was judged in mode m
 pub record JudgedRight (k : Task) (c : ℕ) (m : Mode) (j : Judged) : Type 0 where
-  pub up : (x : ByMode) → Rises x → (in_mode x m).0 ≤ (in_mode x j.mode).0
+  pub up : (x : ByMode Ticks) → Rises x → (in_mode x m).0 ≤ (in_mode x j.mode).0
   pub stays : j.cut ≡ false → c < (in_mode k.limit j.mode).0
   pub cut : j.cut ≡ true → c ≡ (in_mode k.limit j.mode).0
 
@@ -70,7 +71,7 @@ raised_by_one N l h = refl
 raised_by_one D1 l h = refl
 raised_by_one D2 l h = absurd (omega (arith, height_at_most l))
 
-limit_raised : (x : ByMode) → Rises x → (m : Mode) → (in_mode x m).0 ≤ (in_mode x (raised m)).0
+limit_raised : (x : ByMode Ticks) → Rises x → (m : Mode) → (in_mode x m).0 ≤ (in_mode x (raised m)).0
 limit_raised x r N = r.first
 limit_raised x r D1 = r.next
 limit_raised x r D2 = omega arith

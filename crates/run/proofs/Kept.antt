@@ -27,7 +27,7 @@ use Rattle.run.specs.declared.State.{State}
 use Rattle.run.specs.declared.Run.{Run}
 use Rattle.events.specs.declared.Event.{Event}
 use Rattle.events.specs.declared.Event.TheVariants.{Release, Tick}
-use Rattle.run.specs.declared.Answered.{Answered}
+use Rattle.events.specs.declared.Answered.{Answered}
 use Rattle.events.specs.declared.Turn.{Turn}
 use Rattle.events.specs.declared.Turn.TheVariants.{Run as Ran, Empty, Idle}
 use Rattle.run.specs.State.{queues_of, used_at, elapsed_at, waiting_at, runs_at, fresh}
@@ -53,7 +53,7 @@ use Rattle.run.proofs.Steps.{settled_row, settled_low}
 use Rattle.run.proofs.Steps.{waiting_settled, runs_after}
 
 -- a capacity is at most the largest
-pub in_largest : (x : ByMode) (m : Mode) → (in_mode x m).0 ≤ (largest x).0
+pub in_largest : (x : ByMode Ticks) (m : Mode) → (in_mode x m).0 ≤ (largest x).0
 in_largest x N =
     let ab : ℕ = larger x.n.0 x.d1.0 in
     omega (arith, larger_left x.n.0 x.d1.0, larger_left ab x.d2.0)
@@ -266,7 +266,7 @@ module _ (t : Table) (s : State) (mark : Bool) (rules : TableRules t) (h : Shape
 pub release_keeps : (r : Run) (k : ℕ) → RunShaped r → sound r ≡ true → sound (release_of r k).run ≡ true
 release_keeps r k h e =
     let rules = table_rules r.table h.table (sound_table r e) in
-    release_ind (λ (a : Answered). sound a.run ≡ true) r k (λ why. e)
+    release_ind (λ (a : Answered Run). sound a.run ≡ true) r k (λ why. e)
     (λ y.
     sound_build (release_taken r k).run (sound_table r e)
     (release_sound r.table r.state k rules h.state (sound_state_lem r e)
@@ -278,7 +278,7 @@ release_keeps r k h e =
 pub tick_keeps_lem : (r : Run) (mark : Bool) → RunShaped r → sound r ≡ true → sound (tick_of r mark).run ≡ true
 tick_keeps_lem r mark h e =
     let rules = table_rules r.table h.table (sound_table r e) in
-    tick_ind (λ (a : Answered). sound a.run ≡ true) r mark (λ why. e)
+    tick_ind (λ (a : Answered Run). sound a.run ≡ true) r mark (λ why. e)
     (λ y.
     sound_build (ticked_taken r mark).run (sound_table r e)
     (tick_sound r.table r.state mark rules h.state (sound_state_lem r e)

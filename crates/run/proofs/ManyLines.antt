@@ -18,7 +18,7 @@ use Rattle.run.specs.declared.Run.{Run}
 use Rattle.events.specs.declared.Answer.{Answer}
 use Rattle.events.specs.declared.Answer.TheVariants.{Released as AnswerReleased, Ticked as AnswerTicked}
 use Rattle.events.specs.declared.Answer.TheVariants.{No as AnswerNo}
-use Rattle.run.specs.declared.Answered.{Answered}
+use Rattle.events.specs.declared.Answered.{Answered}
 use Rattle.events.specs.declared.Event.{Event}
 use Rattle.events.specs.declared.Event.TheVariants.{Release, Tick}
 use Rattle.events.specs.declared.Told.{Told}
@@ -49,7 +49,7 @@ TickTold (Ticked a) ms = (m : TakenTick) × (ms ≡ m ∷ []) × (m.answer ≡ a
 pub tick_told : (r : Run) (l : Option Event) → TickTold (told_to r l) (ticks_at r l)
 tick_told r None = refl
 tick_told r (Some (Release k)) =
-    release_ind (λ (a : Answered). TickTold (told_of a.answer) []) r k (λ why. refl) (λ y. refl)
+    release_ind (λ (a : Answered Run). TickTold (told_of a.answer) []) r k (λ why. refl) (λ y. refl)
 tick_told r (Some (Tick mark)) = go (tick_of r mark).answer
   where
     go : (a : Answer) → TickTold (told_of a) (taken_by r (Tick mark) a)

@@ -24,8 +24,8 @@ use Rattle.run.specs.declared.Run.{Run}
 use Rattle.events.specs.declared.Event.{Event}
 use Rattle.events.specs.declared.Event.TheVariants.{Release, Tick}
 use Rattle.events.specs.declared.Answer.TheVariants.{Released, Ticked, No}
-use Rattle.run.specs.declared.Begun.{Begun}
-use Rattle.run.specs.declared.Answered.{Answered}
+use Rattle.events.specs.declared.Begun.{Begun}
+use Rattle.events.specs.declared.Answered.{Answered}
 use Rattle.run.specs.State.{waiting_at}
 use Rattle.run.specs.Sound.{sound}
 use Rattle.events.specs.Answers.{no_of}
@@ -42,10 +42,10 @@ use Rattle.run.proofs.Sound.{sound_state_lem}
 -- A refused event leaves the run as it was.
 pub refused_as_it_was : (r : Run) (e : Event) (why : Refusal) → (event_of r e).answer ≡ No why → (event_of r e).run ≡ r
 refused_as_it_was r (Release k) why =
-    release_ind (λ (a : Answered). a.answer ≡ No why → a.run ≡ r) r k (λ w e. refl)
+    release_ind (λ (a : Answered Run). a.answer ≡ No why → a.run ≡ r) r k (λ w e. refl)
     (λ y e. let z : ◌≡◌ {A = ℕ} 0 1 = cc in absurd (omega arith))
 refused_as_it_was r (Tick mark) why =
-    tick_ind (λ (a : Answered). a.answer ≡ No why → a.run ≡ r) r mark (λ w e. refl)
+    tick_ind (λ (a : Answered Run). a.answer ≡ No why → a.run ≡ r) r mark (λ w e. refl)
     (λ y e. let z : ◌≡◌ {A = ℕ} 0 1 = cc in absurd (omega arith))
 
 -- 7's case: the test says of mode and level what the page says
@@ -116,7 +116,7 @@ module _ (r : Run) (k : ℕ) where
 
   pub release_number_lem : ReleaseCase (no_of (release_of r k).answer)
   release_number_lem =
-      release_cases (λ (a : Answered). ReleaseCase (no_of a.answer)) r k (λ e. e) (λ a e. (a, ltb-false k tasks e))
+      release_cases (λ (a : Answered Run). ReleaseCase (no_of a.answer)) r k (λ e. e) (λ a e. (a, ltb-false k tasks e))
       (λ a b e. (a, ltb-true k tasks b, (low_in_d2 mode level).0 e))
       (λ a b f e.
       let l : k < tasks = ltb-true k tasks b in
@@ -220,7 +220,7 @@ module _ (r : Run) (mark : Bool) where
 
   pub tick_number_lem : TickCase (no_of (tick_of r mark).answer)
   tick_number_lem =
-      tick_cases (λ (a : Answered). TickCase (no_of a.answer)) r mark (λ e. e) (λ a e. (a, (no_job mark last).0 e))
+      tick_cases (λ (a : Answered Run). TickCase (no_of a.answer)) r mark (λ e. e) (λ a e. (a, (no_job mark last).0 e))
       (λ a f e. (a, job.0 f, omega (arith, ltb-false ticks 4000000000 e, (sound_state_lem r a).counts.ticks)))
       (λ y. (y.sound, job.0 y.job, ltb-true ticks 4000000000 y.count))
 
@@ -252,7 +252,7 @@ pub start_13 : (t : Table) → (starting_number (start_of t).answer ≡ 13) ↔ 
 unfolding start_of
 start_13 t = (
   if_ind
-      (λ (a : Begun). starting_number a.answer ≡ 13 → table_keeps t ≡ false)
+      (λ (a : Begun Run). starting_number a.answer ≡ 13 → table_keeps t ≡ false)
       (table_keeps t)
       (λ e q. absurd (omega arith))
       (λ e q. e),
@@ -261,15 +261,15 @@ start_13 t = (
 
 pub start_run : (t : Table) → (start_of t).run ≡ fresh_run t
 unfolding start_of
-start_run t = if_ind (λ (a : Begun). a.run ≡ fresh_run t) (table_keeps t) (λ e. refl) (λ e. refl)
+start_run t = if_ind (λ (a : Begun Run). a.run ≡ fresh_run t) (table_keeps t) (λ e. refl) (λ e. refl)
 
 -- The counts of 10 are never passed, whatever the run.
 ticks_within : (r : Run) (e : Event) → r.state.ticks.0 ≤ 4000000000 → (event_of r e).run.state.ticks.0 ≤ 4000000000
 unfolding tick_taken advance
 ticks_within r (Release k) h =
-    release_ind (λ (a : Answered). a.run.state.ticks.0 ≤ 4000000000) r k (λ why. h) (λ y. h)
+    release_ind (λ (a : Answered Run). a.run.state.ticks.0 ≤ 4000000000) r k (λ why. h) (λ y. h)
 ticks_within r (Tick mark) h =
-    tick_ind (λ (a : Answered). a.run.state.ticks.0 ≤ 4000000000) r mark (λ why. h)
+    tick_ind (λ (a : Answered Run). a.run.state.ticks.0 ≤ 4000000000) r mark (λ why. h)
     (λ y. omega (
       arith,
       ltb-true r.state.ticks.0 4000000000 y.count,
@@ -280,10 +280,10 @@ accepted_within : (r : Run) (e : Event) → r.state.accepted ≤ 4000000000 →
     (event_of r e).run.state.accepted ≤ 4000000000
 unfolding tick_taken advance
 accepted_within r (Release k) h =
-    release_ind (λ (a : Answered). a.run.state.accepted ≤ 4000000000) r k (λ why. h)
+    release_ind (λ (a : Answered Run). a.run.state.accepted ≤ 4000000000) r k (λ why. h)
     (λ y. omega (arith, ltb-true r.state.accepted 4000000000 y.count))
 accepted_within r (Tick mark) h =
-    tick_ind (λ (a : Answered). a.run.state.accepted ≤ 4000000000) r mark (λ why. h)
+    tick_ind (λ (a : Answered Run). a.run.state.accepted ≤ 4000000000) r mark (λ why. h)
     (λ y. omega (arith, (settle_counts r.table r.state mark).1))
 
 pub counts_within : (r : Run) (es : List Event) → r.state.ticks.0 ≤ 4000000000 → r.state.accepted ≤ 4000000000 →

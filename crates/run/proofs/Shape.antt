@@ -18,7 +18,7 @@ use Rattle.run.specs.declared.Run.{Run}
 use Rattle.events.specs.declared.Turn.{Turn}
 use Rattle.events.specs.declared.Event.{Event}
 use Rattle.events.specs.declared.Event.TheVariants.{Release, Tick}
-use Rattle.run.specs.declared.Answered.{Answered}
+use Rattle.events.specs.declared.Answered.{Answered}
 use Rattle.queues.specs.Queues.{Queues, front_gone}
 use Rattle.run.specs.State.{queues_of, runs_at, some_waits, fresh, with_mode, with_queues}
 use Rattle.run.specs.Release.{with_job, fresh_run, release_of}
@@ -186,9 +186,9 @@ ticked_shaped r mark h =
 -- no event changes the table
 pub event_table : (r : Run) (e : Event) → (event_of r e).run.table ≡ r.table
 event_table r (Release k) =
-    release_ind (λ (a : Answered). a.run.table ≡ r.table) r k (λ why. refl) (λ y. refl)
+    release_ind (λ (a : Answered Run). a.run.table ≡ r.table) r k (λ why. refl) (λ y. refl)
 event_table r (Tick mark) =
-    tick_ind (λ (a : Answered). a.run.table ≡ r.table) r mark (λ why. refl) (λ y. refl)
+    tick_ind (λ (a : Answered Run). a.run.table ≡ r.table) r mark (λ why. refl) (λ y. refl)
 
 pub event_shaped : (r : Run) (e : Event) → Shaped r.state → Shaped (event_of r e).run.state
 event_shaped r (Release k) h = release_shaped r k h

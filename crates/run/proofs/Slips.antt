@@ -27,7 +27,7 @@ use Rattle.run.specs.declared.Run.{Run}
 use Rattle.events.specs.declared.Event.{Event}
 use Rattle.events.specs.declared.Event.TheVariants.{Release, Tick}
 use Rattle.events.specs.declared.Answer.TheVariants.{Released}
-use Rattle.run.specs.declared.Answered.{Answered}
+use Rattle.events.specs.declared.Answered.{Answered}
 use Rattle.run.specs.State.{used_at, elapsed_at, waiting_at, runs_at, task_waits, some_waits, with_mode}
 use Rattle.run.specs.Sound.{sound}
 use Rattle.events.specs.Answers.{no_of, finished_by, cut_by}
@@ -54,7 +54,7 @@ pub release_adds : (r : Run) (k : ℕ) → RunShaped r → (release_of r k).answ
     ((release_of r k).run.state.runs ≡ r.state.runs)
 release_adds r k h =
     release_ind
-    (λ (a : Answered).
+    (λ (a : Answered Run).
     a.answer ≡ Released k →
     (waiting_at a.run.state k ≡ waiting_at r.state k + 1) × (a.run.state.runs ≡ r.state.runs))
     r

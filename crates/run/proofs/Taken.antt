@@ -10,7 +10,7 @@ use Rattle.table.specs.declared.Refusal.TheVariants.{NoTask, LowInD2, QueueFull,
 use Rattle.table.specs.Rows.{task_at, is_low, is_d2}
 use Rattle.run.specs.declared.Run.{Run}
 use Rattle.events.specs.declared.Answer.TheVariants.{Released}
-use Rattle.run.specs.declared.Answered.{Answered}
+use Rattle.events.specs.declared.Answered.{Answered}
 use Rattle.run.specs.State.{waiting_at}
 use Rattle.run.specs.Sound.{sound}
 use Rattle.run.specs.Release.{refused, with_job, release_of}
@@ -49,14 +49,14 @@ pub record TickTaken (r : Run) (mark : Bool) : Type 0 where
   pub count : counts_on r.state.ticks.0 ≡ true
 
 -- a release and a tick that are taken
-abbrev pub release_taken : Run → ℕ → Answered
+abbrev pub release_taken : Run → ℕ → Answered Run
 release_taken r k = record { answer = Released k; run = record { table = r.table; state = with_job r.state k } }
 
-abbrev pub ticked_taken : Run → Bool → Answered
+abbrev pub ticked_taken : Run → Bool → Answered Run
 ticked_taken r mark = ticked r (tick_taken r.table r.state mark)
 
 -- by the first test that fails
-pub release_cases : (P : Answered → Type 0) (r : Run) (k : ℕ) → (sound r ≡ false → P (refused r Unsound)) →
+pub release_cases : (P : Answered Run → Type 0) (r : Run) (k : ℕ) → (sound r ≡ false → P (refused r Unsound)) →
     (sound r ≡ true → is_task r k ≡ false → P (refused r NoTask)) →
     (sound r ≡ true → is_task r k ≡ true → level_taken r k ≡ false → P (refused r LowInD2)) →
     (sound r ≡ true → is_task r k ≡ true → level_taken r k ≡ true → has_room r k ≡ false → P (refused r QueueFull)) →
@@ -81,7 +81,7 @@ release_cases P r k c13 c6 c7 c8 c10 y =
     (c6 e1))
     c13
 
-pub tick_cases : (P : Answered → Type 0) (r : Run) (mark : Bool) → (sound r ≡ false → P (refused r Unsound)) →
+pub tick_cases : (P : Answered Run → Type 0) (r : Run) (mark : Bool) → (sound r ≡ false → P (refused r Unsound)) →
     (sound r ≡ true → mark_taken r mark ≡ false → P (refused r NoJobRan)) →
     (sound r ≡ true → mark_taken r mark ≡ true → counts_on r.state.ticks.0 ≡ false → P (refused r CountSpent)) →
     (TickTaken r mark → P (ticked_taken r mark)) → P (tick_of r mark)
@@ -96,12 +96,12 @@ tick_cases P r mark c13 c9 c10 y =
     c13
 
 -- taken or refused
-pub release_ind : (P : Answered → Type 0) (r : Run) (k : ℕ) → ((why : Refusal) → P (refused r why)) →
+pub release_ind : (P : Answered Run → Type 0) (r : Run) (k : ℕ) → ((why : Refusal) → P (refused r why)) →
     (ReleaseTaken r k → P (release_taken r k)) → P (release_of r k)
 release_ind P r k n y =
     release_cases P r k (λ a. n Unsound) (λ a b. n NoTask) (λ a b c. n LowInD2) (λ a b c d. n QueueFull)
     (λ a b c d e. n CountSpent) y
 
-pub tick_ind : (P : Answered → Type 0) (r : Run) (mark : Bool) → ((why : Refusal) → P (refused r why)) →
+pub tick_ind : (P : Answered Run → Type 0) (r : Run) (mark : Bool) → ((why : Refusal) → P (refused r why)) →
     (TickTaken r mark → P (ticked_taken r mark)) → P (tick_of r mark)
 tick_ind P r mark n y = tick_cases P r mark (λ a. n Unsound) (λ a b. n NoJobRan) (λ a b c. n CountSpent) y

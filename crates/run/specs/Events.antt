@@ -6,12 +6,12 @@ use Rattle.events.specs.declared.Event.{Event}
 use Rattle.events.specs.declared.Event.TheVariants.{Release, Tick}
 use Rattle.events.specs.Boxes.{Box, after_in, answers_in}
 use Rattle.run.specs.declared.Run.{Run}
-use Rattle.run.specs.declared.Answered.{Answered}
+use Rattle.events.specs.declared.Answered.{Answered}
 use Rattle.run.specs.Sound.{sound}
 use Rattle.run.specs.Release.{release_of}
 use Rattle.run.specs.Tick.{tick_of}
 
-abbrev pub event_of : Run → Event → Answered
+abbrev pub event_of : Run → Event → Answered Run
 event_of r (Release k) = release_of r k
 event_of r (Tick mark) = tick_of r mark
 

@@ -7,7 +7,7 @@ use Rattle.table.specs.declared.Refusal.{Refusal}
 use Rattle.table.specs.declared.Refusal.TheVariants.{RoomShort, Unsound}
 use Rattle.run.specs.declared.Run.{Run}
 use Rattle.events.specs.declared.Told.{Told}
-use Rattle.run.specs.declared.Many.{Many}
+use Rattle.events.specs.declared.Many.{Many}
 use Rattle.run.specs.declared.Finding.{Finding}
 use Rattle.run.specs.Sound.{sound}
 use Rattle.events.specs.Values.{lines_said, all_values}
@@ -32,7 +32,7 @@ after_lines r ls = after_lines_in the_box r ls
 
 -- what is handed back, and the lent room after it
 pub record Lent : Type 0 where
-  pub many : Many
+  pub many : Many Run
   pub room : List ℕ
 
 -- 12: "room as it was"; 13: "it, as it was"

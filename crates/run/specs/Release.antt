@@ -10,13 +10,13 @@ use Rattle.queues.specs.Queues.{joined}
 use Rattle.run.specs.declared.State.{State}
 use Rattle.run.specs.declared.Run.{Run}
 use Rattle.events.specs.declared.Answer.TheVariants.{Released, No}
-use Rattle.run.specs.declared.Begun.{Begun}
-use Rattle.run.specs.declared.Answered.{Answered}
+use Rattle.events.specs.declared.Begun.{Begun}
+use Rattle.events.specs.declared.Answered.{Answered}
 use Rattle.run.specs.State.{queues_of, waiting_at, with_queues, with_counts, fresh}
 use Rattle.run.specs.Sound.{sound}
 
 -- a refusal: "state as it was", "it, as it was"
-abbrev pub refused : Run → Refusal → Answered
+abbrev pub refused : Run → Refusal → Answered Run
 refused r why = record { answer = No why; run = r }
 
 -- a table with a fresh state
@@ -25,7 +25,7 @@ fresh_run t = record { table = t; state = fresh }
 
 -- Start afresh with a table, or 13: no state was handed in, so what comes back is the table as it
 -- was, beside a fresh state.
-unfoldable pub start_of : Table → Begun
+unfoldable pub start_of : Table → Begun Run
 start_of t =
     unless table_keeps t say record { answer = Err Unsound; run = fresh_run t }
     else record { answer = Ok tt; run = fresh_run t }
@@ -35,7 +35,7 @@ abbrev pub with_job : State → ℕ → State
 with_job s k = with_counts (with_queues s (joined (queues_of s) k)) s.ticks (s.accepted + 1)
 
 -- "Others: 13 first; release 6, 7, 8, 10"
-unfoldable pub release_of : Run → ℕ → Answered
+unfoldable pub release_of : Run → ℕ → Answered Run
 release_of r k =
     unless sound r say refused r Unsound
     else unless ltb k r.table.ntasks say refused r NoTask

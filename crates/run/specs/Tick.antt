@@ -21,7 +21,7 @@ use Rattle.events.specs.declared.Left.{Left}
 use Rattle.events.specs.declared.Left.TheVariants.{Nobody, Done, Cut}
 use Rattle.events.specs.declared.TickAnswer.{TickAnswer}
 use Rattle.events.specs.declared.Answer.TheVariants.{Ticked}
-use Rattle.run.specs.declared.Answered.{Answered}
+use Rattle.events.specs.declared.Answered.{Answered}
 use Rattle.run.specs.State.{queues_of, used_at, elapsed_at, waiting_at, runs_at, in_force, passes, owner, waits, some_waits, with_mode}
 use Rattle.run.specs.State.{with_budgets, with_queues, with_last, with_counts}
 use Rattle.run.specs.Sound.{sound}
@@ -207,11 +207,11 @@ tick_taken t s mark =
     let z = settle t s mark in
     record { answer = tick_answer t s.ticks z; state = advance t z.state (choose t z.state) }
 
-abbrev pub ticked : Run → Stepped → Answered
+abbrev pub ticked : Run → Stepped → Answered Run
 ticked r d = record { answer = Ticked d.answer; run = record { table = r.table; state = d.state } }
 
 -- "Others: 13 first; .. tick 9, 10". 9: "mark 1, but no tick was taken yet or the last one ran no job"
-unfoldable pub tick_of : Run → Bool → Answered
+unfoldable pub tick_of : Run → Bool → Answered Run
 tick_of r mark =
     unless sound r say refused r Unsound
     else unless not mark || ran_job r.state.last say refused r NoJobRan

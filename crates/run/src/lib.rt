@@ -3,7 +3,6 @@
 
 #![tactic(auto)]
 
-use events::Answer;
 use table::{Mode, Refusal, SERVERS, TASKS, Table};
 use units::Ticks;
 
@@ -35,33 +34,12 @@ pub struct Judged {
     pub cut: bool,
 }
 
-// What is handed back for a start.
-#[derive(Clone, Copy)]
-pub struct Begun {
-    pub answer: Result<(), Refusal>,
-    pub run: Run,
-}
-
-// What is handed back for an event.
-#[derive(Clone, Copy)]
-pub struct Answered {
-    pub answer: Answer,
-    pub run: Run,
-}
-
 // What steps 5 and 2 find at a taken tick, as plain numbers: one for each server and one for each
 // task. (specs/Found.antt.)
 pub const FOUND_VALUES: usize = SERVERS + TASKS;
 
-// What is handed back for many event lines: that they were taken, or why none of them was, and the
-// run after them.
-#[derive(Clone, Copy)]
-pub struct Many {
-    pub answer: Result<(), Refusal>,
-    pub run: Run,
-}
-
-// The same, and how many ticks were taken among the lines.
+// What is handed back for many event lines of which what is found is asked too: that they were taken,
+// or why none of them was, the run after them, and how many ticks were taken among the lines.
 #[derive(Clone, Copy)]
 pub struct Finding {
     pub answer: Result<(), Refusal>,

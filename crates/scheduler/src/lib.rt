@@ -19,8 +19,8 @@ ghost use Rattle.run.specs.Release.{start_of, release_of};
 ghost use Rattle.run.specs.Tick.{tick_of};
 ghost use Rattle.run.specs.Events.{event_of};
 
-use events::{Answer, Event};
-use run::{Answered, Begun, FOUND_VALUES, Run, State};
+use events::{Answer, Answered, Begun, Event};
+use run::{FOUND_VALUES, Run, State};
 use table::{Mode, Refusal, SERVERS, TASKS, Table};
 use units::Ticks;
 
@@ -41,7 +41,7 @@ fn fresh_state() -> State
 }
 
 // Start afresh with a table. Refused: 13.
-pub fn start(t: Table) -> Begun
+pub fn start(t: Table) -> Begun<Run>
     ensures { result ≡ start_of t }
 {
     let state = fresh_state();
@@ -59,7 +59,7 @@ pub fn start(t: Table) -> Begun
 }
 
 // An event, on a run that is handed in. Refused: 13 first.
-fn answer_event(r: Run, e: Event) -> Answered
+fn answer_event(r: Run, e: Event) -> Answered<Run>
     ensures { result ≡ event_of r e }
 {
     let t = r.table;
@@ -98,7 +98,7 @@ fn answer_event(r: Run, e: Event) -> Answered
 }
 
 // A release of a task. Refused: 13, then 6, 7, 8, 10.
-pub fn release(r: Run, task: usize) -> Answered
+pub fn release(r: Run, task: usize) -> Answered<Run>
     ensures { result ≡ release_of r task }
 {
     let e = Event::Release(task);
@@ -106,7 +106,7 @@ pub fn release(r: Run, task: usize) -> Answered
 }
 
 // One tick, with its end mark. Refused: 13, then 9, 10.
-pub fn tick(r: Run, mark: bool) -> Answered
+pub fn tick(r: Run, mark: bool) -> Answered<Run>
     ensures { result ≡ tick_of r mark }
 {
     let e = Event::Tick(mark);

@@ -14,8 +14,8 @@ ghost use Rattle.scheduler.specs.Inner.Many.{LineTaken, LinesTaken, is_tick, Put
 use crate::parts::Head;
 use crate::sheets::{SERVER_CELLS, TASK_CELLS};
 use crate::{event, parts, sheets};
-use events::{Event, LINE_VALUES, TOLD_VALUES, Told};
-use run::{FOUND_VALUES, Finding, Many, Run};
+use events::{Event, LINE_VALUES, Many, TOLD_VALUES, Told};
+use run::{FOUND_VALUES, Finding, Run};
 use table::{Refusal, SERVERS, TASKS};
 
 // What is told to a line, and the head after it.
@@ -184,7 +184,7 @@ fn find_lines(
 
 // What is told to many event lines stands at the front of the lent room, nine numbers a line.
 // Refused: 13, then 12.
-pub fn answer_many(r: Run, lines: &[u64], told: &mut [u64]) -> Many
+pub fn answer_many(r: Run, lines: &[u64], told: &mut [u64]) -> Many<Run>
     ensures { record { many = result; room = told.new } ≡ many_of r lines.now told.old }
 {
     let t = r.table;

@@ -62,7 +62,7 @@ fn raised(m: Mode) -> Mode
 // "at its limit a job raises the mode only if its level lies above the present one ..; otherwise it
 // is cut", "After a rise, judge again at the new limit." The job is of a task with these limits and
 // this level, and has run so many ticks.
-fn judge_job(x: ByMode, l: Level, c: u32, m: Mode) -> Judged
+fn judge_job(x: ByMode<Ticks>, l: Level, c: u32, m: Mode) -> Judged
     ensures { Judges x l c m result }
 {
     let mut mode = m;
@@ -75,7 +75,7 @@ fn judge_job(x: ByMode, l: Level, c: u32, m: Mode) -> Judged
     Judged { mode, cut: false }
 }
 
-fn limits_of(tasks: &[u32; TASK_CELLS], k: usize) -> ByMode
+fn limits_of(tasks: &[u32; TASK_CELLS], k: usize) -> ByMode<Ticks>
     requires { k < 64 }
     ensures { result ≡ record {
       n = record { 0 = get_or tasks.now (256 + k) 0 };

@@ -8,13 +8,13 @@ use lib.ListN.{length, take}
 use borrow.Author.Tests.{le-leb}
 use Rattle.events.specs.Values.{lines_said}
 use Rattle.run.specs.declared.Run.{Run}
-use Rattle.run.specs.declared.Many.{Many}
+use Rattle.events.specs.declared.Many.{Many}
 use Rattle.run.specs.Sound.{sound}
 use Rattle.run.specs.Events.{the_box}
 use Rattle.run.specs.Many.{many_of, taken, Lent}
 use Rattle.lines.proofs.Serving.{Telling, told_front}
 
-module _ (r : Run) (values told : List ℕ) (fits : 9 * length (lines_said values) ≤ length told) (many : Many)
+module _ (r : Run) (values told : List ℕ) (fits : 9 * length (lines_said values) ≤ length told) (many : Many Run)
     (now : List ℕ)
     (m : record { many = many; room = now } ≡ many_of r values told) where
   all_told_lem : sound r ≡ true → record { many = many; room = now } ≡ taken r (lines_said values) told

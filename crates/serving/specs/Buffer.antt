@@ -5,15 +5,15 @@ use Rattle.run.specs.declared.Run.{Run}
 use Rattle.run.specs.Events.{the_box}
 use Rattle.lines.specs.declared.Held.{Held}
 use Rattle.lines.specs.Serving.{Service, serve_in}
-use Rattle.serving.specs.declared.Served.{Served}
+use Rattle.lines.specs.declared.Served.{Served}
 
 -- what is handed back, and the lent room after it
 pub record Buffered : Type 0 where
-  pub served : Served
+  pub served : Served Run
   pub room : List ℕ
 
 -- nothing of a buffer is taken: what was handed in comes back
-abbrev pub untaken : Refusal → Run → Held → Served
+abbrev pub untaken : Refusal → Run → Held → Served Run
 untaken why r h = record { answer = Err why; run = r; held = h; eaten = 0; put = 0 }
 
 abbrev pub service_of : Buffered → Service Run

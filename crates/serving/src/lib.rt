@@ -13,26 +13,14 @@ ghost use Rattle.serving.specs.Buffer.{untaken, service_of, serve_of};
 
 use cutter::cut_lines;
 use events::{LINE_VALUES, TOLD_VALUES};
-use lines::{BATCH, Cut, Held, lines_at_once};
+use lines::{BATCH, Cut, Held, Served, lines_at_once};
 use printer::print_lines;
 use run::Run;
 use scheduler::many::answer_many;
 use table::Refusal;
 
-// What is handed back for a buffer: the run and the line that is not closed yet, after it; how many
-// of its bytes were taken, and how many bytes of the lent room are their answers.
-// (specs/Buffer.antt.)
-#[derive(Clone, Copy)]
-pub struct Served {
-    pub answer: Result<(), Refusal>,
-    pub run: Run,
-    pub held: Held,
-    pub eaten: usize,
-    pub put: usize,
-}
-
 // 12 and 13: nothing is taken, and what was handed in comes back.
-fn refused(why: Refusal, r: Run, h: Held) -> Served
+fn refused(why: Refusal, r: Run, h: Held) -> Served<Run>
     ensures { result ≡ untaken why r h }
 {
     Served {
@@ -45,7 +33,7 @@ fn refused(why: Refusal, r: Run, h: Held) -> Served
 }
 
 // The lines that were cut, answered: the run is told of them, and what it tells is printed.
-fn answer_lines(r: Run, h: Held, c: Cut, lines: &[u64], room: &mut [u8]) -> Served
+fn answer_lines(r: Run, h: Held, c: Cut, lines: &[u64], room: &mut [u8]) -> Served<Run>
     requires { Fit lines.now (length room.old) }
     ensures { service_of (record { served = result; room = room.new })
         ≡ answered_cut the_box r h c (lines_said lines.now) room.old }
@@ -76,7 +64,7 @@ fn answer_lines(r: Run, h: Held, c: Cut, lines: &[u64], room: &mut [u8]) -> Serv
 // The answers to a buffer stand at the front of the lent room. At most a batch of lines is taken,
 // and no more than the room holds the answers of; the rest of the buffer is to be served next, from
 // what is handed back. Refused: 13, then, where a byte is there to take, 12.
-pub fn serve(r: Run, h: Held, input: &[u8], room: &mut [u8]) -> Served
+pub fn serve(r: Run, h: Held, input: &[u8], room: &mut [u8]) -> Served<Run>
     ensures { record { served = result; room = room.new } ≡ serve_of r h input.now room.old }
 {
     let most = lines_at_once(room.len());

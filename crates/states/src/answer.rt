@@ -3,8 +3,8 @@
 use crate::block::{Block, Operation};
 use crate::part;
 use crate::said::{LONGEST_SAID, put_line, put_queues, say_line, say_no, shown};
-use events::{Answer, TickAnswer, Told};
-use run::{Answered, Begun, Run, State};
+use events::{Answer, Answered, Begun, TickAnswer, Told};
+use run::{Run, State};
 use table::{Mode, Refusal, SERVERS, Table};
 use verdict::{Fits, Verdict};
 
@@ -114,7 +114,7 @@ fn say_tick<R: Print + Eprint>(rt: &R, a: TickAnswer, r: Run) -> bool {
     say_state(rt, b"tick", &values[1..], r)
 }
 
-fn say_begun<R: Print + Eprint>(rt: &R, b: Begun) -> bool {
+fn say_begun<R: Print + Eprint>(rt: &R, b: Begun<Run>) -> bool {
     let answer = b.answer;
     let r = b.run;
     match answer {
@@ -123,7 +123,7 @@ fn say_begun<R: Print + Eprint>(rt: &R, b: Begun) -> bool {
     }
 }
 
-fn say_answered<R: Print + Eprint>(rt: &R, a: Answered) -> bool {
+fn say_answered<R: Print + Eprint>(rt: &R, a: Answered<Run>) -> bool {
     let answer = a.answer;
     let r = a.run;
     match answer {

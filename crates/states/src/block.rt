@@ -66,7 +66,7 @@ pub(crate) fn last_of(any: u64, row: u64) -> Option<usize> {
 }
 
 // Three numbers of a server line and of a task line: "in N, D1, D2".
-fn by_mode(f: Fields) -> ByMode {
+fn by_mode(f: Fields) -> ByMode<Ticks> {
     let v = f.values;
     ByMode {
         n: Ticks(narrow(v[5])),
@@ -99,7 +99,7 @@ fn task_in(f: Fields) -> Task {
     }
 }
 
-fn no_times() -> ByMode {
+fn no_times() -> ByMode<Ticks> {
     ByMode {
         n: Ticks(0),
         d1: Ticks(0),

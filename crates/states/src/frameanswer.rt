@@ -2,8 +2,8 @@
 
 use crate::block::Operation;
 use crate::said::{LONGEST_SAID, put_line, put_queues, say_no};
-use events::{Answer, TickAnswer, Told};
-use framerun::{FrameAnswered, FrameBegun, FrameRun, FrameState};
+use events::{Answer, Answered, Begun, TickAnswer, Told};
+use framerun::{FrameRun, FrameState};
 
 fn put_box(s: FrameState, room: &mut [u8], at: usize) -> usize {
     let last = s.last;
@@ -33,7 +33,7 @@ fn say_tick<R: Print + Eprint>(rt: &R, a: TickAnswer, r: FrameRun) -> bool {
     say_state(rt, b"tick", &values[1..], r)
 }
 
-fn say_begun<R: Print + Eprint>(rt: &R, b: FrameBegun) -> bool {
+fn say_begun<R: Print + Eprint>(rt: &R, b: Begun<FrameRun>) -> bool {
     let answer = b.answer;
     let r = b.run;
     match answer {
@@ -42,7 +42,7 @@ fn say_begun<R: Print + Eprint>(rt: &R, b: FrameBegun) -> bool {
     }
 }
 
-fn say_answered<R: Print + Eprint>(rt: &R, a: FrameAnswered) -> bool {
+fn say_answered<R: Print + Eprint>(rt: &R, a: Answered<FrameRun>) -> bool {
     let answer = a.answer;
     let r = a.run;
     match answer {

@@ -30,6 +30,7 @@ use Rattle.table.specs.Rows.{Rows, rows_of, no_server, no_task, server_at, task_
 use Rattle.table.specs.Rules.{server_keeps, task_keeps, row_there, same_partition, degraded_timed, timed_at_home, task_fault, task_stands, differ, keeps, table_keeps}
 use Rattle.table.specs.Inner.{Sized, place_in, rows_fault}
 use Rattle.table.proofs.Inner.{all_in_use, column_apart}
+use Rattle.units.specs.declared.Ticks.{Ticks}
 
 pub record ServerRules (t : Table) (i : ℕ) : Type 0 where
   pub partition : (server_at t i).partition ≤ 15
@@ -117,7 +118,7 @@ kept_is : (s : Standing) → is_kept s ≡ true → s ≡ Kept
 kept_is Kept e = refl
 kept_is (Broken why field) e = absurd (clash false e refl)
 
-pub record Faultless (ss : List Server) (home degraded : ℕ) (limit : ByMode) : Type 0 where
+pub record Faultless (ss : List Server) (home degraded : ℕ) (limit : ByMode Ticks) : Type 0 where
   pub home_there : row_there ss home ≡ true
   pub degraded_there : row_there ss degraded ≡ true
   pub partition : same_partition ss home degraded ≡ true
@@ -126,7 +127,7 @@ pub record Faultless (ss : List Server) (home degraded : ℕ) (limit : ByMode) :
   pub rises : leb limit.n.0 limit.d1.0 ≡ true
   pub rises_on : leb limit.d1.0 limit.d2.0 ≡ true
 
-module _ (ss : List Server) (home degraded : ℕ) (limit : ByMode) where
+module _ (ss : List Server) (home degraded : ℕ) (limit : ByMode Ticks) where
   pub faultless : is_kept (task_fault ss home degraded limit) ≡ true → Faultless ss home degraded limit
   unfolding task_fault
   faultless e =
@@ -148,7 +149,7 @@ module _ (ss : List Server) (home degraded : ℕ) (limit : ByMode) where
       }
 
 -- the rows that a task names are there
-pub rows_there : (ss : List Server) (home degraded : ℕ) (limit : ByMode) → task_fault ss home degraded limit ≡ Kept →
+pub rows_there : (ss : List Server) (home degraded : ℕ) (limit : ByMode Ticks) → task_fault ss home degraded limit ≡ Kept →
     (home < length ss) × (degraded < length ss)
 rows_there ss home degraded limit e =
     let f = faultless ss home degraded limit (ap is_kept e) in
@@ -180,7 +181,7 @@ place_is : (row : ℕ) → row < 32 → place_in row ≡ row
 place_is row h = rw (lt-ltb row 32 h)
 
 -- 41 to 45, by what is read for the two rows, m of the array being in use
-module _ (ss : List Server) (n m home degraded : ℕ) (limit : ByMode) (whole : length ss ≡ 32)
+module _ (ss : List Server) (n m home degraded : ℕ) (limit : ByMode Ticks) (whole : length ss ≡ 32)
     (e : m ≡ min n 32) where
   in_use : length (take n ss) ≡ m
   in_use = omega (arith, length-take n ss)

@@ -9,13 +9,14 @@ use Rattle.table.specs.declared.Server.{Server}
 use Rattle.table.specs.declared.Task.{Task}
 use Rattle.table.specs.declared.Table.{Table}
 use Rattle.table.specs.Rows.{Rows, table_of}
+use Rattle.units.specs.declared.Ticks.{Ticks}
 
-abbrev pub by_mode : ℕ → ℕ → ℕ → ByMode
+abbrev pub by_mode : ℕ → ℕ → ℕ → ByMode Ticks
 by_mode a b c = record { n = record { 0 = a }; d1 = record { 0 = b }; d2 = record { 0 = c } }
 
 -- 02, No. 7: a server that starts with the tick of its phase, and one "without the field", which
 -- "has phase 0"
-abbrev pub late_server : ℕ → ℕ → Kind → ℕ → ℕ → ByMode → Server
+abbrev pub late_server : ℕ → ℕ → Kind → ℕ → ℕ → ByMode Ticks → Server
 late_server phase partition kind priority period capacity =
     record {
       partition = partition;
@@ -26,10 +27,10 @@ late_server phase partition kind priority period capacity =
       phase = record { 0 = phase };
     }
 
-abbrev pub server : ℕ → Kind → ℕ → ℕ → ByMode → Server
+abbrev pub server : ℕ → Kind → ℕ → ℕ → ByMode Ticks → Server
 server = late_server 0
 
-abbrev pub task : ℕ → ℕ → ℕ → Level → ByMode → Task
+abbrev pub task : ℕ → ℕ → ℕ → Level → ByMode Ticks → Task
 task home degraded priority level limit =
     record { home = home; degraded = degraded; priority = priority; level = level; limit = limit }
 

@@ -13,6 +13,7 @@ use Rattle.table.specs.declared.Standing.{Standing}
 use Rattle.table.specs.declared.Standing.TheVariants.{Kept, Broken}
 use Rattle.table.specs.Rows.{no_server, no_task, is_timed}
 use Rattle.table.specs.Rules.{server_keeps, stays_home, task_stands}
+use Rattle.units.specs.declared.Ticks.{Ticks}
 
 -- the place of a server row in the array, and 0 where the array has no such place
 abbrev pub place_in : ℕ → ℕ
@@ -20,7 +21,7 @@ place_in row = if ltb row 32 then row else 0
 
 -- what `task_fault` asks of the limits and of the two rows that a task names, h and d being what was
 -- read for them and count how many rows there are
-abbrev pub rows_fault : ℕ → Server → Server → ℕ → ℕ → ByMode → Standing
+abbrev pub rows_fault : ℕ → Server → Server → ℕ → ℕ → ByMode Ticks → Standing
 rows_fault count h d home degraded limit =
     unless ltb home count say Broken AbsentRow 1
     else unless ltb degraded count say Broken AbsentRow 2

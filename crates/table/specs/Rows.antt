@@ -41,7 +41,7 @@ mode_said (suc zero) = D1
 mode_said (suc (suc x)) = D2
 
 -- what a row that holds nothing holds
-abbrev pub no_ticks : ByMode
+abbrev pub no_ticks : ByMode Ticks
 no_ticks = record { n = record { 0 = 0 }; d1 = record { 0 = 0 }; d2 = record { 0 = 0 } }
 
 abbrev pub no_server : Server
@@ -65,13 +65,13 @@ abbrev pub task_at : Table → ℕ → Task
 task_at t k = get_or t.tasks k no_task
 
 -- "capacities in N, D1, D2", "limits for N, D1, D2": the one of a mode
-abbrev pub in_mode : ByMode → Mode → Ticks
+abbrev pub in_mode : {A : Type 0} → ByMode A → Mode → A
 in_mode x N = x.n
 in_mode x D1 = x.d1
 in_mode x D2 = x.d2
 
 -- "its largest capacity"
-abbrev pub largest : ByMode → Ticks
+abbrev pub largest : ByMode Ticks → Ticks
 largest x = record { 0 = larger (larger x.n.0 x.d1.0) x.d2.0 }
 
 abbrev pub priority_at : Table → ℕ → ℕ

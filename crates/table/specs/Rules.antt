@@ -12,6 +12,7 @@ use Rattle.table.specs.declared.Standing.{Standing}
 use Rattle.table.specs.declared.Standing.TheVariants.{Kept, Broken}
 use Rattle.table.specs.Refusals.{is_kept}
 use Rattle.table.specs.Rows.{Rows, rows_of, no_server, no_task, is_timed}
+use Rattle.units.specs.declared.Ticks.{Ticks}
 
 -- "`tick`: microseconds in a tick, 1 to 10,000."
 abbrev pub tick_keeps : ℕ → Bool
@@ -69,7 +70,7 @@ timed_at_home ss home degraded = stays_home (get_or ss home no_server).kind home
 -- timed home with another degraded server, falling limits"; "in the order given here, the first
 -- that applies being told, leftmost field concerned, the later where two fields disagree". The home
 -- is field 1, the degraded server 2, the limits "for N, D1, D2", "not falling", are 5, 6 and 7.
-unfoldable pub task_fault : List Server → ℕ → ℕ → ByMode → Standing
+unfoldable pub task_fault : List Server → ℕ → ℕ → ByMode Ticks → Standing
 task_fault ss home degraded limit =
     unless row_there ss home say Broken AbsentRow 1
     else unless row_there ss degraded say Broken AbsentRow 2

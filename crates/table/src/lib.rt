@@ -40,12 +40,12 @@ pub enum Mode {
     D2,
 }
 
-// A number of ticks for each mode: a server's capacities, a task's limits.
+// A value for each mode: a server's capacities, a task's limits, a row's verdicts.
 #[derive(Clone, Copy)]
-pub struct ByMode {
-    pub n: Ticks,
-    pub d1: Ticks,
-    pub d2: Ticks,
+pub struct ByMode<T> {
+    pub n: T,
+    pub d1: T,
+    pub d2: T,
 }
 
 // A server's first period begins with the tick whose number is its phase.
@@ -55,7 +55,7 @@ pub struct Server {
     pub kind: Kind,
     pub priority: u8,
     pub period: Ticks,
-    pub capacity: ByMode,
+    pub capacity: ByMode<Ticks>,
     pub phase: Ticks,
 }
 
@@ -65,7 +65,7 @@ pub struct Task {
     pub degraded: u8,
     pub priority: u8,
     pub level: Level,
-    pub limit: ByMode,
+    pub limit: ByMode<Ticks>,
 }
 
 // The rows in use are the first nservers and the first ntasks.
@@ -235,7 +235,7 @@ pub fn equal_tasks(ks: [Task; TASKS], count: usize) -> Option<(usize, usize)>
 }
 
 // The one of a mode: a match, since rows hold the three by name.
-pub fn in_mode(x: ByMode, m: Mode) -> Ticks
+pub fn in_mode<T: Copy>(x: ByMode<T>, m: Mode) -> T
     ensures { result ≡ in_mode x m }
 {
     match m {
@@ -246,7 +246,7 @@ pub fn in_mode(x: ByMode, m: Mode) -> Ticks
 }
 
 // The largest of the three.
-pub fn largest_of(x: ByMode) -> Ticks
+pub fn largest_of(x: ByMode<Ticks>) -> Ticks
     ensures { result ≡ largest x }
 {
     let two = laws::larger_of(x.n.0, x.d1.0);
@@ -368,7 +368,7 @@ pub fn rows_fault(
     d: Server,
     home: u64,
     degraded: u64,
-    limit: ByMode,
+    limit: ByMode<Ticks>,
 ) -> Standing
     ensures { result ≡ rows_fault count h d home degraded limit }
 {
@@ -406,7 +406,7 @@ pub fn task_fault(
     count: usize,
     home: u64,
     degraded: u64,
-    limit: ByMode,
+    limit: ByMode<Ticks>,
 ) -> Standing
     ensures { result ≡ task_fault (take count ss) home degraded limit }
 {

@@ -22,7 +22,7 @@ use Rattle.table.specs.declared.Kind.{Kind}
 use Rattle.table.specs.declared.Kind.TheVariants.{Event, Timed}
 use Rattle.table.specs.declared.Level.{Level}
 use Rattle.table.specs.declared.Level.TheVariants.{LO, MI, HI}
-use Rattle.text.specs.declared.Times.{Times}
+use Rattle.table.specs.declared.ByMode.{ByMode}
 use Rattle.text.specs.declared.ServerLine.{ServerLine}
 use Rattle.text.specs.declared.Word.{Word}
 use Rattle.text.specs.declared.Word.TheVariants.{ATick, AServer, ATask, Unknown}
@@ -36,7 +36,7 @@ use Rattle.units.specs.declared.Micros.{Micros}
 abbrev pub Short : ℕ → Type 0
 Short n = n < 100000000000
 
-abbrev pub ShortTimes : Times → Type 0
+abbrev pub ShortTimes : ByMode Micros → Type 0
 ShortTimes x = Short x.n.0 × Short x.d1.0 × Short x.d2.0
 
 abbrev pub ShortLast : Option Micros → Type 0
@@ -415,10 +415,10 @@ level_length LO = omega arith
 level_length MI = omega arith
 level_length HI = omega arith
 
-times_length : (x : Times) → ShortTimes x → AllUpTo 11 (times_fields x)
+times_length : (x : ByMode Micros) → ShortTimes x → AllUpTo 11 (times_fields x)
 times_length x w = (short_digits x.n.0 w.0, (short_digits x.d1.0 w.1, (short_digits x.d2.0 w.2, tt)))
 
-last_length : (x : Times) (p : Option Micros) → ShortTimes x → ShortLast p → AllUpTo 11 (times_fields x ++ last_fields p)
+last_length : (x : ByMode Micros) (p : Option Micros) → ShortTimes x → ShortLast p → AllUpTo 11 (times_fields x ++ last_fields p)
 last_length x None w v = times_length x w
 last_length x (Some u) w v = (
   short_digits x.n.0 w.0,

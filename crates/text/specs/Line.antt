@@ -7,7 +7,7 @@ use Rattle.laws.specs.Search.{first_failed}
 use Rattle.decimal.specs.Number.{is_number, worth, digits}
 use Rattle.decimal.specs.Lines.{tab, split, join, same}
 use Rattle.units.specs.declared.Micros.{Micros}
-use Rattle.text.specs.declared.Times.{Times}
+use Rattle.table.specs.declared.ByMode.{ByMode}
 use Rattle.text.specs.declared.ServerLine.{ServerLine}
 use Rattle.text.specs.declared.TaskLine.{TaskLine}
 use Rattle.text.specs.declared.Word.{Word}
@@ -77,7 +77,7 @@ abbrev pub micros_at : List (List ℕ) → ℕ → Micros
 micros_at fs k = record { 0 = worth (field_at fs k) }
 
 -- fields 5 to 7: "in N, D1, D2"
-abbrev pub times_at : List (List ℕ) → Times
+abbrev pub times_at : List (List ℕ) → ByMode Micros
 times_at fs = record { n = micros_at fs 5; d1 = micros_at fs 6; d2 = micros_at fs 7 }
 
 -- field k, the last of its form, where the line goes so far
@@ -162,7 +162,7 @@ unfoldable pub read_line : List ℕ → Line
 read_line l = line_of (split tab l)
 
 -- The same, written. A malformed line is never written.
-abbrev pub times_fields : Times → List (List ℕ)
+abbrev pub times_fields : ByMode Micros → List (List ℕ)
 times_fields x = digits x.n.0 ∷ digits x.d1.0 ∷ digits x.d2.0 ∷ []
 
 abbrev pub last_fields : Option Micros → List (List ℕ)

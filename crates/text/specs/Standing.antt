@@ -17,7 +17,6 @@ use Rattle.table.specs.declared.Standing.{Standing}
 use Rattle.table.specs.declared.Standing.TheVariants.{Kept, Broken}
 use Rattle.table.specs.Rows.{Rows}
 use Rattle.table.specs.Rules.{tick_keeps, priority_keeps, limit_keeps, task_fault}
-use Rattle.text.specs.declared.Times.{Times}
 use Rattle.text.specs.declared.ServerLine.{ServerLine}
 use Rattle.text.specs.declared.TaskLine.{TaskLine}
 use Rattle.text.specs.declared.Word.{Word}
@@ -56,7 +55,7 @@ server_of t s =
 abbrev pub rounded_up : ℕ → Micros → Ticks
 rounded_up t u = record { 0 = up u.0 t }
 
-abbrev pub limits_of : ℕ → Times → ByMode
+abbrev pub limits_of : ℕ → ByMode Micros → ByMode Ticks
 limits_of t x = record { n = rounded_up t x.n; d1 = rounded_up t x.d1; d2 = rounded_up t x.d2 }
 
 abbrev pub task_of : ℕ → TaskLine → Task

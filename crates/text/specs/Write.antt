@@ -14,7 +14,6 @@ use Rattle.table.specs.declared.Refusal.TheVariants.{RoomShort, Unsound}
 use Rattle.table.specs.Refusals.{number_of}
 use Rattle.table.specs.Rows.{Rows, rows_of}
 use Rattle.table.specs.Rules.{table_keeps}
-use Rattle.text.specs.declared.Times.{Times}
 use Rattle.text.specs.declared.ServerLine.{ServerLine}
 use Rattle.text.specs.declared.TaskLine.{TaskLine}
 use Rattle.text.specs.declared.Line.{Line}
@@ -27,7 +26,7 @@ use Rattle.text.specs.Standing.{whole}
 abbrev pub in_micros : ℕ → Ticks → Micros
 in_micros t x = record { 0 = x.0 * t }
 
-abbrev pub times_back : ℕ → ByMode → Times
+abbrev pub times_back : ℕ → ByMode Ticks → ByMode Micros
 times_back t x = record { n = in_micros t x.n; d1 = in_micros t x.d1; d2 = in_micros t x.d2 }
 
 -- 02, No. 7: at phase 0 "the writer then leaves the field out"

@@ -4,19 +4,11 @@
 
 #![tactic(auto)]
 
-use table::{Kind, Level, Refusal, Table};
+use table::{ByMode, Kind, Level, Refusal, Table};
 use units::Micros;
 
 // "The text is at most 16,384 bytes".
 pub const LONGEST_TEXT: usize = 16384;
-
-// A time for each mode, as a line has it: a server's capacities, a task's limits.
-#[derive(Clone, Copy)]
-pub struct Times {
-    pub n: Micros,
-    pub d1: Micros,
-    pub d2: Micros,
-}
 
 // The phase is the last field, which may be absent.
 #[derive(Clone, Copy)]
@@ -25,7 +17,7 @@ pub struct ServerLine {
     pub kind: Kind,
     pub priority: u64,
     pub period: Micros,
-    pub capacity: Times,
+    pub capacity: ByMode<Micros>,
     pub phase: Option<Micros>,
 }
 
@@ -35,7 +27,7 @@ pub struct TaskLine {
     pub degraded: u64,
     pub priority: u64,
     pub level: Level,
-    pub limit: Times,
+    pub limit: ByMode<Micros>,
 }
 
 // The leading word of a line: which kind of line it begins, or none.

@@ -21,22 +21,22 @@ use Rattle.table.specs.Rules.{server_keeps, task_keeps, task_fault, task_stands,
 use Rattle.table.specs.Example.{by_mode, server, task, rows, example}
 use Rattle.verdict.specs.declared.Verdict.{Verdict}
 use Rattle.verdict.specs.declared.Verdict.TheVariants.{Response}
-use Rattle.verdict.specs.declared.RowVerdicts.{RowVerdicts}
 use Rattle.verdict.specs.declared.Fits.TheVariants.{Yes, Miss, No as NoFits}
 use Rattle.verdict.specs.Verdict.{interference, meets, response_at, verdict_of}
 use Rattle.verdict.specs.Fits.{verdicts_of, no_verdicts, least_row, from_verdicts, fits_of}
+use Rattle.units.specs.declared.Ticks.{Ticks}
 
 -- Servers of period 4, the higher first, with these capacities.
-abbrev pub first : ByMode → Server
+abbrev pub first : ByMode Ticks → Server
 first c = server 0 Timed 3 4 c
 
-abbrev pub middle : Kind → ByMode → Server
+abbrev pub middle : Kind → ByMode Ticks → Server
 middle kind c = server 1 kind 2 4 c
 
-abbrev pub last : ByMode → Server
+abbrev pub last : ByMode Ticks → Server
 last c = server 2 Timed 1 4 c
 
-unfoldable pub three : Kind → ByMode → ByMode → ByMode → Table
+unfoldable pub three : Kind → ByMode Ticks → ByMode Ticks → ByMode Ticks → Table
 three kind a b c = table_of (rows (first a ∷ middle kind b ∷ last c ∷ []) (task 0 0 1 HI (by_mode 1 1 1) ∷ []))
 
 unfoldable computed : Unit {0}
@@ -48,7 +48,7 @@ computed = tt
 abbrev pub ticks : ℕ → Verdict
 ticks r = Response (record { 0 = r })
 
-abbrev pub said : Verdict → Verdict → Verdict → RowVerdicts
+abbrev pub said : Verdict → Verdict → Verdict → ByMode Verdict
 said a b c = record { n = a; d1 = b; d2 = c }
 
 -- The table of document 01's example: P1 to P5 among them. It fits.

@@ -24,7 +24,7 @@ use Rattle.table.proofs.Rows.{mode_back, mode_again, mode_below}
 use Rattle.table.proofs.Rules.{few_servers}
 use Rattle.verdict.specs.declared.Verdict.{Verdict}
 use Rattle.verdict.specs.declared.Verdict.TheVariants.{Response, Misses, No}
-use Rattle.verdict.specs.declared.RowVerdicts.{RowVerdicts}
+use Rattle.table.specs.declared.ByMode.{ByMode}
 use Rattle.verdict.specs.declared.Fits.{Fits}
 use Rattle.verdict.specs.declared.Fits.TheVariants.{Yes, Miss, No as NoFits}
 use Rattle.verdict.specs.Verdict.{response_at, told, verdict_of}
@@ -38,12 +38,12 @@ module _ (t : Table) where
   verdicts_length = length_listed 32 (row_verdicts t)
 
   -- those of a row stand in its place
-  pub verdicts_at : (i : ℕ) (d : RowVerdicts) → i < 32 → get_or (verdicts_of t) i d ≡ row_verdicts t i
+  pub verdicts_at : (i : ℕ) (d : ByMode Verdict) → i < 32 → get_or (verdicts_of t) i d ≡ row_verdicts t i
   unfolding verdicts_of
   verdicts_at i d h = listed_at 32 (row_verdicts t) i d h
 
 -- As a loop writes them: those of the first i rows, and after them what stands for an absent row.
-pub record RowsWritten (t : Table) (i : ℕ) (all : List RowVerdicts) : Type 0 where
+pub record RowsWritten (t : Table) (i : ℕ) (all : List (ByMode Verdict)) : Type 0 where
   pub long : length all ≡ 32
   pub rows : (k : ℕ) → k < i → get_or all k (no_verdicts NoServer) ≡ row_verdicts t k
   pub absent : (k : ℕ) → i ≤ k → k < 32 → get_or all k (no_verdicts NoServer) ≡ no_verdicts NoServer
@@ -57,7 +57,7 @@ module _ (t : Table) where
         absent = λ k h l. get_or-replicate 32 k (no_verdicts NoServer) (no_verdicts NoServer) l;
       }
 
-  pub row_written : (i : ℕ) (all : List RowVerdicts) (v : RowVerdicts) → i < 32 → RowsWritten t i all →
+  pub row_written : (i : ℕ) (all : List (ByMode Verdict)) (v : ByMode Verdict) → i < 32 → RowsWritten t i all →
       v ≡ row_verdicts t i → RowsWritten t (i + 1) (set all i v)
   row_written i all v h w e =
       let d = no_verdicts NoServer in
@@ -74,7 +74,7 @@ module _ (t : Table) where
   absent_row k e h =
       rw (verdict_absent t N k e h, verdict_absent t D1 k e h, verdict_absent t D2 k e h)
 
-  pub all_written : (all : List RowVerdicts) → table_keeps t ≡ true → RowsWritten t t.nservers all → all ≡ verdicts_of t
+  pub all_written : (all : List (ByMode Verdict)) → table_keeps t ≡ true → RowsWritten t t.nservers all → all ≡ verdicts_of t
   unfolding verdicts_of
   all_written all e w =
       is_listed 32 (row_verdicts t) (no_verdicts NoServer) all w.long (λ k h. row k h (le_or_lt t.nservers k))

@@ -15,23 +15,23 @@ use Rattle.table.specs.Rows.{mode_value, mode_said}
 use Rattle.table.specs.Rules.{table_keeps}
 use Rattle.verdict.specs.declared.Verdict.{Verdict}
 use Rattle.verdict.specs.declared.Verdict.TheVariants.{Response, Misses, No}
-use Rattle.verdict.specs.declared.RowVerdicts.{RowVerdicts}
+use Rattle.table.specs.declared.ByMode.{ByMode}
 use Rattle.verdict.specs.declared.Fits.{Fits}
 use Rattle.verdict.specs.declared.Fits.TheVariants.{Yes, Miss, No as NoFits}
 use Rattle.verdict.specs.Verdict.{verdict_of}
 
 -- the verdicts of a row, in the three modes
-abbrev pub row_verdicts : Table → ℕ → RowVerdicts
+abbrev pub row_verdicts : Table → ℕ → ByMode Verdict
 row_verdicts t i =
     record { n = verdict_of t i N; d1 = verdict_of t i D1; d2 = verdict_of t i D2 }
 
 -- "all verdicts written out": of each row that a table may hold. A row that this one lacks has 11,
 -- and every row of a table that breaks the rules has 13.
-unfoldable pub verdicts_of : Table → List RowVerdicts
+unfoldable pub verdicts_of : Table → List (ByMode Verdict)
 verdicts_of t = listed 32 (row_verdicts t)
 
 -- the one of a mode
-abbrev pub verdict_in : RowVerdicts → Mode → Verdict
+abbrev pub verdict_in : ByMode Verdict → Mode → Verdict
 verdict_in v N = v.n
 verdict_in v D1 = v.d1
 verdict_in v D2 = v.d2
@@ -43,15 +43,15 @@ is_miss Misses = true
 is_miss (No why) = false
 
 -- the same refusal in each mode
-abbrev pub no_verdicts : Refusal → RowVerdicts
+abbrev pub no_verdicts : Refusal → ByMode Verdict
 no_verdicts why = record { n = No why; d1 = No why; d2 = No why }
 
 -- "the least row" that misses in a mode
-unfoldable pub least_row : List RowVerdicts → Mode → Option ℕ
+unfoldable pub least_row : List (ByMode Verdict) → Mode → Option ℕ
 least_row vs m = least (λ i. is_miss (verdict_in (get_or vs i (no_verdicts NoServer)) m)) 0 (length vs)
 
 -- "the least mode in the order N, D1, D2, then the least row"; yes where there is none
-unfoldable pub from_verdicts : List RowVerdicts → Fits
+unfoldable pub from_verdicts : List (ByMode Verdict) → Fits
 from_verdicts vs = first_of (λ k. Miss (mode_said k)) Yes (λ k. least_row vs (mode_said k)) 3
 
 -- "A table or state refused by 13 is refused here too."

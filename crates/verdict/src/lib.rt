@@ -10,7 +10,7 @@ ghost use Rattle.verdict.specs.Inner.{late_of, interference_in, meets_in, Column
 ghost use Rattle.verdict.specs.Verdict.{response_at, verdict_of};
 ghost use Rattle.verdict.specs.Fits.{row_verdicts, verdicts_of, no_verdicts, least_row, fits_of};
 
-use table::{Kind, MODES, Mode, Refusal, SERVERS, Table};
+use table::{ByMode, Kind, MODES, Mode, Refusal, SERVERS, Table};
 use units::Ticks;
 
 // The least response, "misses", or a refusal.
@@ -19,14 +19,6 @@ pub enum Verdict {
     Response(Ticks),
     Misses,
     No(Refusal),
-}
-
-// A row's verdicts in the three modes.
-#[derive(Clone, Copy)]
-pub struct RowVerdicts {
-    pub n: Verdict,
-    pub d1: Verdict,
-    pub d2: Verdict,
 }
 
 // Whether a table fits: yes, the least miss, or a refusal. (02, No. 5.)
@@ -191,11 +183,11 @@ pub fn verdict_of(t: Table, row: usize, mode: Mode) -> Verdict
 }
 
 // What stands in the place of a row that has no verdicts.
-fn refused(why: Refusal) -> RowVerdicts
+fn refused(why: Refusal) -> ByMode<Verdict>
     ensures { result ≡ no_verdicts why }
 {
     let no = Verdict::No(why);
-    RowVerdicts {
+    ByMode {
         n: no,
         d1: no,
         d2: no,
@@ -203,11 +195,11 @@ fn refused(why: Refusal) -> RowVerdicts
 }
 
 // The verdicts of a row that is there.
-fn row_verdicts(t: Table, row: usize) -> RowVerdicts
+fn row_verdicts(t: Table, row: usize) -> ByMode<Verdict>
     requires { (table_keeps t ≡ true) × (row < t.nservers) }
     ensures { result ≡ row_verdicts t row }
 {
-    RowVerdicts {
+    ByMode {
         n: verdict_in(t, row, Mode::N),
         d1: verdict_in(t, row, Mode::D1),
         d2: verdict_in(t, row, Mode::D2),
@@ -215,7 +207,7 @@ fn row_verdicts(t: Table, row: usize) -> RowVerdicts
 }
 
 // All verdicts of a table: 13 is asked once for all of them.
-pub fn verdicts_of(t: Table) -> [RowVerdicts; SERVERS]
+pub fn verdicts_of(t: Table) -> [ByMode<Verdict>; SERVERS]
     ensures { result ≡ verdicts_of t }
 {
     if !table::table_keeps(t) {

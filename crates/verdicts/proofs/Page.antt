@@ -14,12 +14,13 @@ use Rattle.table.specs.declared.Refusal.TheVariants.{NoServer}
 use Rattle.table.specs.declared.Table.{Table}
 use Rattle.table.specs.Rules.{table_keeps}
 use Rattle.table.proofs.Rules.{few_servers}
-use Rattle.verdict.specs.declared.RowVerdicts.{RowVerdicts}
+use Rattle.table.specs.declared.ByMode.{ByMode}
 use Rattle.verdict.specs.Fits.{verdicts_of, no_verdicts}
 use Rattle.verdict.proofs.Fitting.{verdicts_at}
 use Rattle.verdicts.specs.Page.{verdict_word, row_line, row_lines}
+use Rattle.verdict.specs.declared.Verdict.{Verdict}
 
-pub row_put : (i : ℕ) (v : RowVerdicts) {d : List ℕ} {at : ℕ} {e1 : List ℕ} {k1 : ℕ} {e2 : List ℕ}
+pub row_put : (i : ℕ) (v : ByMode Verdict) {d : List ℕ} {at : ℕ} {e1 : List ℕ} {k1 : ℕ} {e2 : List ℕ}
     {k2 : ℕ} {e3 : List ℕ} {k3 : ℕ} {e4 : List ℕ} {k4 : ℕ} {e5 : List ℕ} {k5 : ℕ} {e6 : List ℕ}
     {k6 : ℕ} →
     Put (digits i) d at e1 k1 → Put (tab ∷ []) e1 k1 e2 k2 →
@@ -34,7 +35,7 @@ row_put i v p q n d1 d2 l =
     put_field (digits i) f1 (f2 ∷ f3 ∷ []) (put_more (digits i) (tab ∷ []) p q)
     (put_field f1 f2 (f3 ∷ []) n (put_field f2 f3 [] d1 (put_last f3 d2 l)))
 
-pub rows_next : (vs : List RowVerdicts) (i : ℕ) (v : RowVerdicts) {d : List ℕ} {at : ℕ} {e : List ℕ}
+pub rows_next : (vs : List (ByMode Verdict)) (i : ℕ) (v : ByMode Verdict) {d : List ℕ} {at : ℕ} {e : List ℕ}
     {k : ℕ} {f : List ℕ} {r : ℕ} → v ≡ get_or vs i (no_verdicts NoServer) →
     Put (closed (row_lines vs i)) d at e k → Put (closed (row_line i v ∷ [])) e k f r →
     Put (closed (row_lines vs (i + 1))) d at f r
@@ -43,12 +44,12 @@ rows_next vs i v q p l =
     let u = get_or vs i (no_verdicts NoServer) in
     rw (add-one i) (put_lines (row_lines vs i) (row_line i u ∷ []) p (rw q at l))
 
-pub rows_none : (vs : List RowVerdicts) (d : List ℕ) (at : ℕ) → Put (closed (row_lines vs 0)) d at d at
+pub rows_none : (vs : List (ByMode Verdict)) (d : List ℕ) (at : ℕ) → Put (closed (row_lines vs 0)) d at d at
 unfolding row_lines closed
 rows_none vs d at = put_none d at
 
 -- whatever stands in the place of a row that there is not
-pub same_row : (t : Table) (i : ℕ) (d : RowVerdicts) → table_keeps t ≡ true → i < t.nservers →
+pub same_row : (t : Table) (i : ℕ) (d : ByMode Verdict) → table_keeps t ≡ true → i < t.nservers →
     get_or (verdicts_of t) i d ≡ get_or (verdicts_of t) i (no_verdicts NoServer)
 same_row t i d e h =
     let l : i < 32 = omega (arith, few_servers t e) in

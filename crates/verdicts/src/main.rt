@@ -14,8 +14,8 @@ use decimal::put::{put_all, put_byte, put_number};
 use files::given::{Case, say_refused};
 use std::process::ExitCode;
 use std::rt::Runtime;
-use table::Table;
-use verdict::{RowVerdicts, Verdict};
+use table::{ByMode, Table};
+use verdict::Verdict;
 
 // A row has at most a number of 2 digits and three verdicts of 10 bytes, with what parts and closes
 // them.
@@ -39,7 +39,7 @@ fn put_field(v: Verdict, room: &mut [u8], at: usize) -> usize
     put_byte(b'\t', room, k)
 }
 
-fn put_row(row: usize, v: RowVerdicts, room: &mut [u8], at: usize) -> usize
+fn put_row(row: usize, v: ByMode<Verdict>, room: &mut [u8], at: usize) -> usize
     ensures { Put (closed (row_line row v ∷ [])) room.old at room.new result }
 {
     let n = v.n;

@@ -75,7 +75,7 @@ fn put_time(x: Ticks, tick: Micros, room: &mut [u8], at: usize) -> usize
 }
 
 // A time for each mode, the last with no tab after it.
-fn put_times(x: ByMode, tick: Micros, room: &mut [u8], at: usize) -> usize
+fn put_times(x: ByMode<Ticks>, tick: Micros, room: &mut [u8], at: usize) -> usize
     requires { tick.0 ≤ 10000 }
     ensures { Put (join tab (times_fields (times_back tick.0 x))) room.old at room.new result }
 {

@@ -3,7 +3,7 @@
 use Rattle.std.proofs.Common.{◌∙◌, ◌≡◌, false, [], sym, rules}
 use Rattle.text.specs.declared.Reading.{Reading}
 use Rattle.frametable.specs.Inner.{FrameSized}
-use Rattle.framerun.specs.declared.FrameBegun.{FrameBegun}
+use Rattle.events.specs.declared.Begun.{Begun}
 use Rattle.framerun.specs.Release.{start_of}
 use Rattle.framerun.specs.Events.{frame_box}
 use Rattle.framerun.proofs.Kept.{fresh_keeps}
@@ -18,9 +18,10 @@ use Rattle.frame.specs.declared.given.FrameGiven.{FrameGiven}
 use Rattle.frame.specs.Handed.{FrameHanded}
 use Rattle.frame.proofs.Handed.{frame_given_keeps, frame_start_run}
 use Rattle.frame.proofs.is_answered.Goals as goal
+use Rattle.framerun.specs.declared.FrameRun.{FrameRun}
 
 begun : (g : FrameGiven) → FrameHanded g → FrameSized g.table → (a : Reading) → g.case ≡ Answer a → is_refused a ≡ false →
-    (b : FrameBegun) → b ≡ start_of g.table → (h : Held) → h ≡ held_of [] → Ready frame_box b.run h
+    (b : Begun FrameRun) → b ≡ start_of g.table → (h : Held) → h ≡ held_of [] → Ready frame_box b.run h
 begun g d z a e f b p h q =
     record {
       sound = rw (p, frame_start_run g.table) (fresh_keeps g.table z (frame_given_keeps g d a e (not_refused a f))).1;

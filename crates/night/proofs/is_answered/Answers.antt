@@ -2,7 +2,7 @@
 -- rules, so a fresh run of it is sound. Assumes nothing.
 use Rattle.std.proofs.Common.{◌∙◌, ◌≡◌, false, [], sym}
 use Rattle.text.specs.declared.Reading.{Reading}
-use Rattle.run.specs.declared.Begun.{Begun}
+use Rattle.events.specs.declared.Begun.{Begun}
 use Rattle.run.specs.Release.{start_of}
 use Rattle.run.specs.Events.{the_box}
 use Rattle.run.proofs.Kept.{fresh_keeps}
@@ -16,9 +16,10 @@ use Rattle.files.specs.declared.given.Given.{Given}
 use Rattle.files.specs.Handed.{is_refused, Handed}
 use Rattle.files.proofs.Handed.{given_keeps, given_sized, not_refused}
 use Rattle.night.proofs.is_answered.Goals as goal
+use Rattle.run.specs.declared.Run.{Run}
 
 begun : (g : Given) → Handed g → (a : Reading) → g.case ≡ Answer a → is_refused a ≡ false →
-    (b : Begun) → b ≡ start_of g.table → (h : Held) → h ≡ held_of [] → Ready the_box b.run h
+    (b : Begun Run) → b ≡ start_of g.table → (h : Held) → h ≡ held_of [] → Ready the_box b.run h
 begun g d a e f b p h q =
     let t = not_refused a f in
     record {

@@ -4,7 +4,7 @@ use Rattle.std.proofs.Common.{◌≡◌, false, [], replicate, sym, ◌∙◌}
 use Rattle.text.specs.declared.Reading.{Reading}
 use Rattle.lines.specs.declared.Held.{Held}
 use Rattle.lines.specs.HeldLine.{held_of}
-use Rattle.run.specs.declared.Begun.{Begun}
+use Rattle.events.specs.declared.Begun.{Begun}
 use Rattle.run.specs.Release.{start_of}
 use Rattle.run.proofs.Refused.{start_run}
 use Rattle.files.specs.declared.given.Case.TheVariants.{Read as Answer}
@@ -14,10 +14,11 @@ use Rattle.files.proofs.Handed.{given_keeps, given_sized, not_refused}
 use Rattle.report.specs.Pieces.{AfterSome}
 use Rattle.report.proofs.Pieces.{start_after, some_after}
 use Rattle.report.proofs.is_answered.Goals as goal
+use Rattle.run.specs.declared.Run.{Run}
 
 -- what stands at the start
 begun : (g : Given) → Handed g → (a : Reading) → g.case ≡ Answer a → is_refused a ≡ false →
-    (b : Begun) → b ≡ start_of g.table → (h : Held) → h ≡ held_of [] →
+    (b : Begun Run) → b ≡ start_of g.table → (h : Held) → h ≡ held_of [] →
     AfterSome (record {
       run = b.run;
       held = h;

@@ -25,6 +25,7 @@ use Rattle.run.specs.Tick.{height}
 use Rattle.events.proofs.Answers.{same_or_not}
 use Rattle.scheduler.specs.Inner.Columns.{kind_number, level_in, written, OnSheet, ServersOn, TasksOn}
 use Rattle.scheduler.specs.Inner.Choose.{owner_column, capacity_column}
+use Rattle.units.specs.declared.Ticks.{Ticks}
 
 -- a kind and a level, told by their numbers
 pub timed_number : (k : Kind) → not (eqb (kind_number k) 0) ≡ is_timed k
@@ -140,7 +141,7 @@ module _ (t : Table) (xs : List ℕ) (p : TasksOn t xs) (k : ℕ) (h : k < t.nta
   pub level_on : level_in (get_or xs (192 + k) 0) ≡ (task_at t k).level
   level_on = ap level_in (p 3 k (lit< tt) h) ∙ level_back (task_at t k).level
 
-  pub limits_on : ◌≡◌ {A = ByMode}
+  pub limits_on : ◌≡◌ {A = ByMode Ticks}
       (record {
         n = record { 0 = get_or xs (256 + k) 0 };
         d1 = record { 0 = get_or xs (320 + k) 0 };

@@ -34,14 +34,15 @@ use Rattle.scheduler.specs.Inner.Parts.{last_in, state_of, at_mode}
 use Rattle.scheduler.specs.Inner.Steps.{Judges, none_found, kept_of, gone_of, noted_of, Discards, waits_at, is_n}
 use Rattle.scheduler.specs.Inner.Steps.{SettlesMode, Refills, Charges, after_run, RunsFront, Ages}
 use Rattle.scheduler.proofs.Inner.Columns.{low_on, period_on, phase_on}
+use Rattle.units.specs.declared.Ticks.{Ticks}
 
 -- Step 1: a job that was judged from mode m₀ on is still to be judged in mode m.
-abbrev pub StillJudged : ByMode → Level → ℕ → Mode → Mode → Type 0
+abbrev pub StillJudged : ByMode Ticks → Level → ℕ → Mode → Mode → Type 0
 StillJudged x l c m₀ m =
     (n : ℕ) × Enough (suc n) m ×
     ((k : Task) → k.limit ≡ x → k.level ≡ l → judge 3 k c m₀ ≡ judge (suc n) k c m)
 
-module _ (x : ByMode) (l : Level) (c : ℕ) (m₀ m : Mode) where
+module _ (x : ByMode Ticks) (l : Level) (c : ℕ) (m₀ m : Mode) where
   pub judged_on : StillJudged x l c m₀ m → c ≡ (in_mode x m).0 → raises m l ≡ true → StillJudged x l c m₀ (raised m)
   judged_on (zero, h, f) q u =
       absurd (omega (arith, height_at_most l, ltb-true (height (counts_as m)) (height l) u))

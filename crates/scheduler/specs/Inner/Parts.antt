@@ -4,7 +4,7 @@ use Rattle.table.specs.declared.Mode.{Mode}
 use Rattle.table.specs.declared.Table.{Table}
 use Rattle.run.specs.declared.State.{State}
 use Rattle.run.specs.declared.Run.{Run}
-use Rattle.run.specs.declared.Answered.{Answered}
+use Rattle.events.specs.declared.Answered.{Answered}
 use Rattle.queues.specs.Queues.{ran_job}
 use Rattle.scheduler.specs.declared.parts.Head.{Head}
 use Rattle.scheduler.specs.declared.parts.Step.{Step}
@@ -63,6 +63,6 @@ pub record Counts (t : Table) (h : Head) : Type 0 where
   pub tasks : h.ntasks ≡ t.ntasks
 
 -- A step answers a, and the run after it is that of a.
-pub record Answers (t : Table) (d : Step) (used elapsed waiting runs : List ℕ) (a : Answered) : Type 0 where
+pub record Answers (t : Table) (d : Step) (used elapsed waiting runs : List ℕ) (a : Answered Run) : Type 0 where
   pub counts : Counts t d.head
   pub says : record { answer = d.answer; run = run_of t d.head used elapsed waiting runs } ≡ a

@@ -21,6 +21,7 @@ use Rattle.scheduler.specs.declared.settle.Risen.{Risen}
 use Rattle.scheduler.specs.declared.settle.Settling.{Settling}
 use Rattle.scheduler.specs.Inner.Parts.{last_task, last_in, state_of, at_mode, Counts}
 use Rattle.scheduler.specs.Inner.Columns.{ServersOn, TasksOn}
+use Rattle.units.specs.declared.Ticks.{Ticks}
 
 -- What the head and the sheets show of a table that keeps the rules.
 pub record Shows (t : Table) (h : Head) (ss ks : List ℕ) : Type 0 where
@@ -39,7 +40,7 @@ pub record Few (h : Head) : Type 0 where
   pub tasks : h.ntasks ≤ 64
 
 -- Step 1. A job of a task with these limits and this level is judged.
-abbrev pub Judges : ByMode → Level → ℕ → Mode → Judged → Type 0
+abbrev pub Judges : ByMode Ticks → Level → ℕ → Mode → Judged → Type 0
 Judges x l c m r = (k : Task) → k.limit ≡ x → k.level ≡ l → r ≡ judge 3 k c m
 
 -- the last-run task, if any, has a waiting job
