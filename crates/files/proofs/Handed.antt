@@ -1,53 +1,48 @@
--- A table that is given as taken keeps the rules, whatever the reads answered. Assumes nothing.
-use mathlib.Core.Path.{◌≡◌, refl, sym, ap, ◌∙◌}
-use mathlib.Core.Bool.{true, false}
-use Rattle.laws.proofs.Choice.{clash}
+-- A table that is given as taken is one that the reader takes, whatever the reads answered; so it keeps
+-- the rules. Assumes nothing.
+use Rattle.std.proofs.Common.{◌≡◌, Bool, true, ap, List, ℕ, Option, Some, None, Result, Ok, Err, sym, subst, ◌∙◌}
 use Rattle.table.specs.declared.Table.{Table}
-use Rattle.table.specs.Rows.{no_table}
 use Rattle.table.specs.Rules.{table_keeps}
 use Rattle.table.specs.Inner.{Sized}
-use Rattle.text.specs.declared.Reading.{Reading}
-use Rattle.text.specs.declared.Reading.TheVariants.{Taken, Refused, Equal}
+use Rattle.text.specs.declared.ReadError.{ReadError}
+use Rattle.text.specs.TableText.{handed}
 use Rattle.text.specs.Read.{read, shown}
+use Rattle.text.proofs.TableText.{handed_taken}
 use Rattle.text.proofs.RoundTrip.{read_keeps, read_sized}
 use Rattle.files.specs.declared.How.{How}
 use Rattle.files.specs.declared.How.TheVariants.{On, End, Failed}
-use Rattle.files.specs.declared.given.Case.{Case}
-use Rattle.files.specs.declared.given.Case.TheVariants.{Read as Answer, Unread}
-use Rattle.files.specs.declared.given.Given.{Given}
-use Rattle.files.specs.Handed.{is_refused, case_of, table_by, Handed}
+use Rattle.files.specs.Handed.{given_by, Handed, Said}
 
-answer_in : Case → Reading
-answer_in (Answer a) = a
-answer_in Unread = Equal 0 0
+-- Of any kind of table: what is given as taken, the reader answers of that text.
+given_read : {T : Type 0} (read : List ℕ → Result T ReadError) (how : How) (text : List ℕ) (t : T) →
+    given_by read how text ≡ Some (Ok t) → read text ≡ Ok t
+given_read read On text t e = cc
+given_read read End text t e = cc
+given_read read Failed text t e = cc
 
--- Of any kind of table: what holds of a table that the reader takes holds of one that is given as
--- taken.
-pub taken_given : {T : Type 0} (P : T → Type 0) (how : How) (answer : Reading) (none table : T) →
-    (answer ≡ Taken → P table) → (a : Reading) → case_of how answer ≡ Answer a → a ≡ Taken → P (table_by how none table)
-unfolding answer_in
-taken_given P On answer none table p a e t = p (ap answer_in e ∙ t)
-taken_given P End answer none table p a e t = p (ap answer_in e ∙ t)
-taken_given P Failed answer none table p a e t = absurd (clash (is_refused (Equal 0 0)) refl (ap is_refused (ap answer_in e ∙ t)))
+pub handed_read : {T : Type 0} (read : List ℕ → Result T ReadError) (g : Option (Result T ReadError)) (h : Handed read g) (t : T) →
+    g ≡ Some (Ok t) → read h.text ≡ Ok t
+handed_read read g h t e = given_read read h.how h.text t (sym h.given ∙ e)
 
-pub given_keeps : (g : Given) → Handed g → (a : Reading) → g.case ≡ Answer a → a ≡ Taken →
-    table_keeps g.table ≡ true
-given_keeps g h a e t =
-    let d = shown (read h.text) in
-    rw h.given
-    (taken_given (λ (x : Table). table_keeps x ≡ true) h.how d.answer no_table d.table (read_keeps h.text) a
-    (sym (ap (λ (x : Given). x.case) h.given) ∙ e) t)
+pub given_keeps : (g : Option (Result Table ReadError)) → Handed (λ text. handed (shown (read text))) g → (t : Table) → g ≡ Some (Ok t) →
+    table_keeps t ≡ true
+given_keeps g h t e =
+    let d = handed_taken (shown (read h.text)) t (handed_read _ g h t e) in
+    subst (λ (x : Table). table_keeps x ≡ true) d.1 (read_keeps h.text d.0)
 
 -- Its arrays have the lengths of every table that code holds.
-pub given_sized : (g : Given) → Handed g → (a : Reading) → g.case ≡ Answer a → a ≡ Taken → Sized g.table
-given_sized g h a e t =
-    let d = shown (read h.text) in
-    rw h.given
-    (taken_given Sized h.how d.answer no_table d.table (read_sized h.text) a
-    (sym (ap (λ (x : Given). x.case) h.given) ∙ e) t)
+pub given_sized : (g : Option (Result Table ReadError)) → Handed (λ text. handed (shown (read text))) g → (t : Table) → g ≡ Some (Ok t) →
+    Sized t
+given_sized g h t e =
+    let d = handed_taken (shown (read h.text)) t (handed_read _ g h t e) in
+    subst Sized d.1 (read_sized h.text d.0)
 
--- What is read and not refused is taken.
-pub not_refused : (a : Reading) → is_refused a ≡ false → a ≡ Taken
-not_refused Taken e = refl
-not_refused (Refused why line field) e = cc
-not_refused (Equal first second) e = cc
+-- What was said of a reader's answer, and handed on as a table, the reader took.
+said_taken : {T : Type 0} (read : Result T ReadError) (r : Result T Bool) (t : T) → Said read r → r ≡ Ok t → read ≡ Ok t
+said_taken (Ok u) r t s e = cc
+said_taken {T = T} (Err why) r t s e =
+    let none : ⊥ = subst (λ (x : Result T Bool). Said (Err why) x) e s in absurd none
+
+pub given_taken : {T : Type 0} {g : Option (Result T ReadError)} {read : Result T ReadError} {r : Result T Bool} {t : T} →
+    g ≡ Some read → Said read r → r ≡ Ok t → g ≡ Some (Ok t)
+given_taken {T = T} {read = read} {r = r} {t = t} e s f = e ∙ ap Some (said_taken read r t s f)

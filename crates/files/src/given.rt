@@ -1,39 +1,18 @@
-// The table that a program is given: read, or answered as refused. What does not speak of the table's
-// rows serves every kind of table.
+// The table that a program is given: read, or answered as refused. Every kind of table is taken so
+// that is read from a text.
 
-ghost use Rattle.std.specs.Prelude.{◌≡◌, length};
 ghost use Rattle.files.specs.Answers.{Out};
-ghost use Rattle.files.specs.Handed.{is_failed, is_refused, said_of, given_of, Handed};
+ghost use Rattle.files.specs.Handed.{is_failed, given_by, Handed, Said};
+ghost use Rattle.std.specs.Prelude.{◌≡◌};
 
 use crate::How;
 use lines::LONGEST_ANSWER;
+use reader::FromText;
 use std::io::Read;
-use table::Table;
-use text::{LONGEST_TEXT, Reading};
+use text::{LONGEST_TEXT, ReadError};
 
 // One byte more than a text may have, so that a longer file shows.
 pub const ROOM: usize = LONGEST_TEXT + 1;
-
-// What became of a table file: the reader's answer, or that it could not be read.
-#[derive(Clone, Copy)]
-pub enum Case {
-    Read(Reading),
-    Unread,
-}
-
-// That, and the table; where there is none, the one that stands beside every refusal.
-#[derive(Clone, Copy)]
-pub struct Given {
-    pub case: Case,
-    pub table: Table,
-}
-
-// What became of a reader's answer: whether it is a refusal, and whether what it prints was written.
-#[derive(Clone, Copy)]
-pub struct Said {
-    pub refused: bool,
-    pub written: bool,
-}
 
 // Whether a file could not be read.
 pub fn is_failed(how: How) -> bool
@@ -46,61 +25,39 @@ pub fn is_failed(how: How) -> bool
     }
 }
 
-// What is given by a file that was read so, with this text.
-fn given_of(how: How, text: &[u8]) -> Given
-    ensures { result ≡ given_of how text.now }
+// What is given by a file that was read so, with this text: none where it could not be read.
+fn given_of<T: FromText>(how: How, text: &[u8]) -> Option<Result<T, ReadError>>
+    ensures { result ≡ given_by T.read_of how text.now }
 {
     if is_failed(how) {
-        return Given {
-            case: Case::Unread,
-            table: table::no_table(),
-        };
+        return None;
     }
-    let read = reader::read_table(text);
-    let table = read.table;
-    let answer = read.answer;
-    Given {
-        case: Case::Read(answer),
-        table,
-    }
+    Some(T::from_text(text))
 }
 
-fn is_refused(a: Reading) -> bool
-    ensures { result ≡ is_refused a }
+// "A refused table prints only" its one line. The table of a text that is taken; of a refused one,
+// whether all that there is to print was written.
+pub fn say_refused<R: Print + Eprint, T>(rt: &R, read: Result<T, ReadError>) -> Result<T, bool>
+    ensures { Said read result }
 {
-    match a {
-        Reading::Taken => false,
-        Reading::Refused { .. } => true,
-        Reading::Equal { .. } => true,
+    match read {
+        Ok(table) => Ok(table),
+        Err(why) => {
+            let mut line = [0u8; LONGEST_ANSWER];
+            let n = printer::put_refused(Err(why), &mut line, 0);
+            Err(crate::write_first(rt, &line, n))
+        }
     }
 }
 
-// Whether a table is refused; "A refused table prints only" its one line. And whether all that there
-// is to print was written.
-pub fn say_refused<R: Print + Eprint>(rt: &R, a: Reading) -> Said
-    ensures refused { result.refused ≡ is_refused a }
-    ensures written { Out (length (said_of a)) result.written }
-{
-    let refused = is_refused(a);
-    if !refused {
-        return Said {
-            refused,
-            written: true,
-        };
-    }
-    let mut line = [0u8; LONGEST_ANSWER];
-    let n = printer::put_refused(a, &mut line, 0);
-    let written = crate::write_first(rt, &line, n);
-    Said { refused, written }
-}
-
-// The table in an open file.
-pub fn take_table<R: Eprint, S: Read>(rt: &R, source: &mut S) -> Given
-    ensures { Handed result }
+// The table in an open file, or why its text is none; none where the file could not be read.
+pub fn take_table<R: Eprint, S: Read, T: FromText>(
+    rt: &R,
+    source: &mut S,
+) -> Option<Result<T, ReadError>>
+    ensures { Handed T.read_of result }
 {
     let mut buf = [0u8; ROOM];
     let got = crate::take_whole(rt, source, &mut buf);
-    let n = got.len;
-    let how = got.how;
-    given_of(how, &buf[..n])
+    given_of(got.how, &buf[..got.len])
 }

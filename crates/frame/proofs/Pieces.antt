@@ -1,9 +1,9 @@
 -- The pieces of a file together are answered as the definition of a frame box's night says. Assumes
 -- nothing.
+use Rattle.std.proofs.Common.{Ok}
 use mathlib.Core.Path.{◌≡◌}
 use mathlib.Core.List.{List, []}
 use Prim.Native.Nat.{ℕ}
-use Rattle.text.specs.declared.Reading.TheVariants.{Taken}
 use Rattle.frametable.specs.Text.{frame_read, frame_shown}
 use Rattle.framerun.specs.Release.{fresh_frame}
 use Rattle.framerun.specs.Events.{frame_box}
@@ -13,7 +13,7 @@ use Rattle.lines.proofs.Pieces.{pieces_lines}
 use Rattle.frameserving.specs.Night.{frame_night}
 use Rattle.frame.specs.Pieces.{written}
 
-pub pieces_frame : (table : List ℕ) (ps : List (List ℕ)) → (frame_shown (frame_read table)).answer ≡ Taken →
+pub pieces_frame : (table : List ℕ) (ps : List (List ℕ)) → (frame_shown (frame_read table)).answer ≡ Ok tt →
     written (fresh_frame (frame_shown (frame_read table)).table) (held_of []) ps ≡ frame_night table (joined ps)
 unfolding frame_night
 pieces_frame table ps e =

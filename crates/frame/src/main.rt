@@ -6,16 +6,15 @@
 
 #![tactic(auto)]
 
-mod given;
-
 ghost use Rattle.std.specs.Prelude.{◌≡◌};
 ghost use Rattle.files.specs.Turns.{Lent};
 ghost use Rattle.frame.specs.Pieces.{standing, piece_of, turn_of, NightReady};
 
 use files::How;
-use files::given::{Case, is_failed, say_refused};
+use files::given::{is_failed, say_refused};
 use files::pieces::{PIECE, ROOM, answer_last};
 use framerun::FrameRun;
+use frametable::FrameTable;
 use lines::{BATCH, Held, LONGEST_ANSWER, smaller_of};
 use std::io::Read;
 use std::process::ExitCode;
@@ -132,16 +131,13 @@ fn is_answered<R: Runtime>(rt: &R) -> bool {
         let _ = eprintln!(rt; "frame: standard input is given twice");
         return false;
     }
-    let given = given::take_table(rt, &mut table);
-    let t = given.table;
-    let case = given.case;
-    let Case::Read(answer) = case else {
+    let Some(read) = files::given::take_table(rt, &mut table) else {
         return false;
     };
-    let said = say_refused(rt, answer);
-    if said.refused {
-        return said.written;
-    }
+    let t: FrameTable = match say_refused(rt, read) {
+        Ok(table) => table,
+        Err(written) => return written,
+    };
     let started = framescheduler::start(t);
     let run = started.run;
     let held = cutter::no_line();

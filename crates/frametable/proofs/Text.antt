@@ -3,7 +3,7 @@
 -- as with every table (crate text, proofs/TableText.antt): here is what is this table's own. The
 -- statements to quote stand at the end; the cases of each number are in TextExactly.antt. Assumes
 -- nothing.
-use Rattle.std.proofs.Common.{None, Option, Some}
+use Rattle.std.proofs.Common.{None, Option, Some, Err, Ok}
 use mathlib.Core.Path.{◌≡◌, refl, sym, ap, subst, ◌∙◌}
 use mathlib.Core.Bool.{true, false, not}
 use mathlib.Core.List.{List, [], ◌∷◌, map}
@@ -21,16 +21,12 @@ use Rattle.laws.proofs.Search.{failed_none}
 use Rattle.units.specs.declared.Micros.{Micros}
 use Rattle.table.specs.declared.Refusal.{Refusal}
 use Rattle.table.specs.declared.Refusal.TheVariants.{Malformed, OutOfBounds}
-use Rattle.table.specs.declared.Standing.{Standing}
-use Rattle.table.specs.declared.Standing.TheVariants.{Kept, Broken}
-use Rattle.table.specs.Refusals.{standing_number}
+use Rattle.table.specs.Refusals.{standing_number, breaks, Standing}
 use Rattle.table.specs.Rules.{differ}
 use Rattle.table.proofs.Pairs.{differ_pair, pair_differ}
 use Rattle.text.specs.declared.Word.{Word}
-use Rattle.text.specs.declared.Reading.{Reading}
-use Rattle.text.specs.declared.Reading.TheVariants.{Taken, Refused}
 use Rattle.text.specs.Standing.{is_nil, tell◌at◌or◌}
-use Rattle.text.specs.TableText.{ReadOf, taken, pair_told, LinesKeep, rows_grown}
+use Rattle.text.specs.TableText.{ReadOf, taken, pair_told, LinesKeep, rows_grown, Reading}
 use Rattle.text.specs.Read.{reading_number}
 use Rattle.text.proofs.Standing.{unless_kept, tell_kept, each_more, not_nil}
 use Rattle.text.proofs.Allowed.{some}
@@ -42,6 +38,7 @@ use Rattle.frametable.specs.Rows.{FrameRows, no_frame_rows, no_frame_task, no_fr
 use Rattle.frametable.specs.Rules.{frame_task_keeps, equal_frame_tasks, frame_keeps}
 use Rattle.frametable.specs.Line.{frame_word_of, frame_malformed_at, read_frame_line}
 use Rattle.frametable.specs.Text.{frame_task_of, frame_placed, frame_task_bounds, frame_bounds, frame_standing, frame_grown, frame_ended, frame_text, frame_read, frame_shown, FrameAllowed}
+use Rattle.text.specs.declared.ReadError.TheVariants.{Refused}
 
 -- A line that keeps the rules, by each of them.
 pub record FrameLineKeeps (n : ℕ) (a : FrameRows) (l : FrameLine) : Type 0 where
@@ -49,7 +46,7 @@ pub record FrameLineKeeps (n : ℕ) (a : FrameRows) (l : FrameLine) : Type 0 whe
   pub formed : frame_malformed_at l ≡ None
   pub bounded : every (frame_bounds a l) ≡ true
 
-pub frame_line_keeps : (n : ℕ) (a : FrameRows) (l : FrameLine) → frame_standing n a l ≡ Kept → FrameLineKeeps n a l
+pub frame_line_keeps : (n : ℕ) (a : FrameRows) (l : FrameLine) → frame_standing n a l ≡ Ok tt → FrameLineKeeps n a l
 unfolding frame_standing
 frame_line_keeps n a l e =
     let p = unless_kept (frame_placed n (frame_word_of l)) Malformed 0 _ e in
@@ -196,7 +193,7 @@ allowed_taken text a w =
     (pair_ended (1 + length w.lines) a w.task
     ∙ rw (differ_pair (length a.tasks) (λ k. (get_or a.tasks k no_frame_task).priority) w.differing))
 
-taken_allowed : (text : List ℕ) → (frame_read text).answer ≡ Taken → FrameAllowed text (frame_read text).rows
+taken_allowed : (text : List ℕ) → (frame_read text).answer ≡ Ok tt → FrameAllowed text (frame_read text).rows
 taken_allowed text e =
     let j = judged text (taken_not e) in
     let a = j.rows in
@@ -230,16 +227,16 @@ standing_numbered n a l =
     if_ind StandingNumbered (frame_placed n (frame_word_of l))
     (λ e. told (frame_malformed_at l) (first_failed (frame_bounds a l))) (λ e. inr (inl refl))
   where
-    told : (x y : Option ℕ) → StandingNumbered (tell Malformed at x or tell OutOfBounds at y or Kept)
+    told : (x y : Option ℕ) → StandingNumbered (tell Malformed at x or tell OutOfBounds at y or (Ok tt))
     told (Some field) y = inr (inl refl)
     told None (Some field) = inr (inr refl)
     told None None = inl refl
 
 broken_numbered : (n : ℕ) (a : FrameRows) (l : FrameLine) (why : Refusal) (field : ℕ) →
-    frame_standing n a l ≡ Broken why field → Numbered (Refused why n field)
+    frame_standing n a l ≡ breaks why field → Numbered (Err (Refused why n field))
 broken_numbered n a l why field e = go (subst StandingNumbered e (standing_numbered n a l))
   where
-    go : StandingNumbered (Broken why field) → Numbered (Refused why n field)
+    go : StandingNumbered (breaks why field) → Numbered (Err (Refused why n field))
     go (inl z) = inl z
     go (inr (inl z)) = inr (inl z)
     go (inr (inr z)) = inr (inr (inl z))
@@ -254,14 +251,14 @@ ended_numbered n a =
     told (Some (i, j)) = inr (inr (inr refl))
     told None = inl refl
 
-ended_none : (n : ℕ) (a : FrameRows) → ((frame_ended n a).answer ≡ Taken) ⊎ ((frame_ended n a).rows ≡ no_frame_rows)
+ended_none : (n : ℕ) (a : FrameRows) → ((frame_ended n a).answer ≡ Ok tt) ⊎ ((frame_ended n a).rows ≡ no_frame_rows)
 unfolding frame_ended
 ended_none n a =
-    if_ind (λ (r : ReadOf FrameRows). (r.answer ≡ Taken) ⊎ (r.rows ≡ no_frame_rows)) (not (is_nil a.tasks))
+    if_ind (λ (r : ReadOf FrameRows). (r.answer ≡ Ok tt) ⊎ (r.rows ≡ no_frame_rows)) (not (is_nil a.tasks))
     (λ e. told (equal_frame_tasks a.tasks)) (λ e. inr refl)
   where
     told : (p : Option (ℕ × ℕ)) →
-        let r = pair_told no_frame_rows 2 p (taken a) in (r.answer ≡ Taken) ⊎ (r.rows ≡ no_frame_rows)
+        let r = pair_told no_frame_rows 2 p (taken a) in (r.answer ≡ Ok tt) ⊎ (r.rows ≡ no_frame_rows)
     told (Some (i, j)) = inr refl
     told None = inl refl
 
@@ -278,19 +275,19 @@ module _ (text : List ℕ) where
   )
 
   -- What is read keeps the rules.
-  pub frame_rows_keep : (frame_read text).answer ≡ Taken → frame_keeps (frame_read text).rows ≡ true
+  pub frame_rows_keep : (frame_read text).answer ≡ Ok tt → frame_keeps (frame_read text).rows ≡ true
   frame_rows_keep e =
       let w = taken_allowed text e in
       let g = lines_good (map read_frame_line w.lines) w.kept (rw w.rows w.task) in
       good_keeps (frame_read text).rows (subst FrameGood w.rows g) w.task w.differing
 
   -- "a refused read hands back no table"
-  pub frame_refused_none : ((frame_read text).answer ≡ Taken → ⊥) → (frame_read text).rows ≡ no_frame_rows
+  pub frame_refused_none : ((frame_read text).answer ≡ Ok tt → ⊥) → (frame_read text).rows ≡ no_frame_rows
   unfolding frame_read
   frame_refused_none f =
       elim (taken_or_none frame_text ended_none text) [ inl e ↦ absurd (f e) | inr e ↦ e ]
 
-  pub frame_refused_no_table : ((frame_read text).answer ≡ Taken → ⊥) →
+  pub frame_refused_no_table : ((frame_read text).answer ≡ Ok tt → ⊥) →
       (frame_shown (frame_read text)).table ≡ no_frame_table
   unfolding frame_shown
   frame_refused_no_table f = ap frame_table_of (frame_refused_none f)

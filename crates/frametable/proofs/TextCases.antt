@@ -1,6 +1,7 @@
 -- Small texts of a frame box worked out by hand: the number, the line and the field that each is
 -- answered with, and the rows. So a wrong definition is a false equation that can be seen. Assumes
 -- nothing.
+use Rattle.std.proofs.Common.{Ok}
 use mathlib.Core.Path.{◌≡◌, refl}
 use mathlib.Core.List.{List, [], ◌∷◌, ◌++◌}
 use Prim.Native.Nat.{ℕ}
@@ -13,7 +14,6 @@ use Rattle.laws.specs.Quoted.{bytes, lined}
 use Rattle.decimal.specs.Number.{are_digits, number_form, is_number, worth_from}
 use Rattle.decimal.specs.Lines.{split, same}
 use Rattle.table.specs.declared.Refusal.TheVariants.{OutOfBounds}
-use Rattle.table.specs.declared.Standing.TheVariants.{Kept, Broken}
 use Rattle.table.specs.Pairs.{later_equal, first_pair}
 use Rattle.text.specs.Words.{tick_word, server_word, task_word}
 use Rattle.text.specs.Line.{tick_form, field_tests, form_tests}
@@ -23,6 +23,7 @@ use Rattle.frametable.specs.Rows.{FrameRows, no_frame_task, frame_table_of}
 use Rattle.frametable.specs.Rules.{frame_task_keeps}
 use Rattle.frametable.specs.Line.{frame_task_form, frame_line_by, frame_line_of, read_frame_line}
 use Rattle.frametable.specs.Text.{frame_placed, frame_task_bounds, frame_bounds, frame_standing, frame_grown, frame_ended, frame_read, frame_shown}
+use Rattle.table.specs.Refusals.{breaks}
 
 unfoldable computed : Unit {0}
 unfolding
@@ -92,11 +93,11 @@ limit_just_above = refl
 abbrev above : ℕ → FrameRows
 above n = record { tick = record { 0 = 1000 }; tasks = replicate n no_frame_task }
 
-pub task_65 : frame_standing 66 (above 64) (read_frame_line (bytes "task\t3\t1\t1000")) ≡ Broken OutOfBounds 0
+pub task_65 : frame_standing 66 (above 64) (read_frame_line (bytes "task\t3\t1\t1000")) ≡ breaks OutOfBounds 0
 unfolding computed
 task_65 = refl
 
-pub task_64 : frame_standing 65 (above 63) (read_frame_line (bytes "task\t2\t1\t1000")) ≡ Kept
+pub task_64 : frame_standing 65 (above 63) (read_frame_line (bytes "task\t2\t1\t1000")) ≡ Ok tt
 unfolding computed
 task_64 = refl
 

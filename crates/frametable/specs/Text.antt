@@ -2,26 +2,25 @@
 -- tick line and 1 to 64 task lines of partition (0 measuring, 1 alarm sending, 2 panel), priority
 -- and one limit; a greater partition is 2." All else is document 01's reading: length first, then
 -- line by line (crate text, specs/TableText.antt), with No. 2's fields, and 5 at the end.
-use Rattle.std.specs.Prelude.{◌≡◌, Bool, true, false, not, List, [], ◌∷◌, ◌++◌, map, ℕ, ◌≤◌, ltb, eqb, length, get_or}
+use Rattle.std.specs.Prelude.{◌≡◌, Bool, true, false, not, List, [], ◌∷◌, ◌++◌, map, ℕ, ◌≤◌, ltb, eqb, length, get_or, Ok}
 use Rattle.laws.specs.Choice.{unless◌say◌else◌}
 use Rattle.laws.specs.Search.{first_failed}
 use Rattle.table.specs.declared.Refusal.TheVariants.{Malformed, OutOfBounds}
-use Rattle.table.specs.declared.Standing.{Standing}
-use Rattle.table.specs.declared.Standing.TheVariants.{Kept, Broken}
 use Rattle.decimal.specs.Lines.{line_feed, split}
 use Rattle.table.specs.Rules.{tick_keeps, differ}
 use Rattle.text.specs.declared.Word.{Word}
 use Rattle.text.specs.declared.Word.TheVariants.{ATick, AServer, ATask, Unknown}
 use Rattle.text.specs.Standing.{is_nil, rounded_up, anything, tell◌at◌or◌}
-use Rattle.text.specs.TableText.{ReadOf, taken, refused_beside, pair_told, TableText, read_lines, read_text, LinesKeep, rows_grown}
+use Rattle.text.specs.TableText.{ReadOf, taken, refused_beside, pair_told, TableText, read_lines, read_text, LinesKeep, rows_grown, Read}
 use Rattle.frametable.specs.declared.FrameTask.{FrameTask}
 use Rattle.frametable.specs.declared.FrameTaskLine.{FrameTaskLine}
 use Rattle.frametable.specs.declared.FrameLine.{FrameLine}
 use Rattle.frametable.specs.declared.FrameLine.TheVariants.{OfTick, OfTask, Malformed as MalformedLine}
-use Rattle.frametable.specs.declared.FrameRead.{FrameRead}
 use Rattle.frametable.specs.Rows.{FrameRows, no_frame_rows, no_frame_task, frame_table_of}
 use Rattle.frametable.specs.Rules.{frame_task_keeps, equal_frame_tasks}
 use Rattle.frametable.specs.Line.{frame_word_of, frame_malformed_at, read_frame_line}
+use Rattle.table.specs.Refusals.{breaks, Standing}
+use Rattle.frametable.specs.declared.FrameTable.{FrameTable}
 
 -- A task's row, in a table whose tick is t microseconds: document 01's "rounded up to a tick".
 abbrev pub frame_task_of : ℕ → FrameTaskLine → FrameTask
@@ -50,10 +49,10 @@ frame_bounds a (MalformedLine word field) = []
 -- first, as 0". No time has to be whole ticks, and there are no server rows.
 unfoldable pub frame_standing : ℕ → FrameRows → FrameLine → Standing
 frame_standing n a l =
-    unless frame_placed n (frame_word_of l) say Broken Malformed 0
+    unless frame_placed n (frame_word_of l) say breaks Malformed 0
     else tell Malformed at frame_malformed_at l
     or tell OutOfBounds at first_failed (frame_bounds a l)
-    or Kept
+    or (Ok tt)
 
 -- the rows with that of one more line, which keeps the rules there
 unfoldable pub frame_grown : FrameRows → FrameLine → FrameRows
@@ -85,7 +84,7 @@ unfolding read_text read_lines
 frame_read = read_text frame_text
 
 -- As the reader hands it back: the table beside a refusal is no_frame_table.
-unfoldable pub frame_shown : ReadOf FrameRows → FrameRead
+unfoldable pub frame_shown : ReadOf FrameRows → Read FrameTable
 frame_shown r = record { answer = r.answer; table = frame_table_of r.rows }
 
 -- Which texts are allowed, and the rows that they say. "The text is at most 16,384 bytes"; it is

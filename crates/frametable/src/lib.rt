@@ -10,7 +10,7 @@ ghost use Rattle.frametable.specs.Rules.{frame_task_keeps, equal_frame_tasks, fr
 ghost use Rattle.frametable.specs.Inner.{frame_tasks_keep};
 
 use table::TASKS;
-use text::{Reading, Word};
+use text::Word;
 use units::{Micros, Ticks};
 
 // A task's row: "partition (0 measuring, 1 alarm sending, 2 panel), priority and one limit".
@@ -45,14 +45,6 @@ pub enum FrameLine {
     OfTick(Micros),
     OfTask(FrameTaskLine),
     Malformed(Word, usize),
-}
-
-// The table stands beside the answer. Where the text is refused it is one without rows,
-// noFrameTable.
-#[derive(Clone, Copy)]
-pub struct FrameRead {
-    pub answer: Reading,
-    pub table: FrameTable,
 }
 
 // The table that stands beside a refusal, and that reading begins with: no tick and no rows.

@@ -1,6 +1,6 @@
 -- An event file piece by piece, answered by any box: what stands after each batch of a piece, and
 -- that the pieces of a file together are answered as the whole file is. Assumes nothing.
-use Rattle.std.proofs.Common.{Option}
+use Rattle.std.proofs.Common.{Option, Ok}
 use mathlib.Core.Path.{◌≡◌, refl, sym, ap, subst, ◌∙◌}
 use mathlib.Core.Bool.{true}
 use mathlib.Core.List.{List, [], ◌∷◌, ◌++◌, append-nil, append_assoc}
@@ -12,8 +12,6 @@ use lib.Seq.{length-take-le, take_all, take-add, take-append-le, take-append-add
 use borrow.Author.Tests.{le-leb}
 use Rattle.laws.proofs.Choice.{if_ind}
 use Rattle.decimal.specs.Lines.{line_feed, closed}
-use Rattle.text.specs.declared.Reading.{Reading}
-use Rattle.text.specs.declared.Reading.TheVariants.{Taken}
 use Rattle.events.specs.Boxes.{Box, after_lines_in}
 use Rattle.lines.specs.declared.Held.{Held}
 use Rattle.lines.specs.HeldLine.{line_in, held_of}
@@ -27,6 +25,7 @@ use Rattle.lines.proofs.Cutting.{taken_within}
 use Rattle.lines.proofs.HeldLine.{held_again}
 use Rattle.lines.proofs.Answered.{AnsweredBy, answered_none, answered_join, answered_more, answered_file}
 use Rattle.events.specs.declared.Event.{Event}
+use Rattle.text.specs.TableText.{Reading}
 
 -- of some bytes, room for n lines takes n at least
 taken_enough : (n k : ℕ) (bs : List ℕ) → n ≤ k → n ≤ length bs → n ≤ taken_for k bs
@@ -176,7 +175,7 @@ module _ {S : Type 0} (b : Box S) where
       ap (λ x. closed (answer_lines_in b s (event_lines x))) (append_assoc bytes p (joined ps))
 
   -- So from a table that was taken: the pieces together are the whole night.
-  pub pieces_lines : (answer : Reading) (s : S) (ps : List (List ℕ)) → answer ≡ Taken →
+  pub pieces_lines : (answer : Reading) (s : S) (ps : List (List ℕ)) → answer ≡ Ok tt →
       written_in b s (held_of []) ps ≡ closed (night_lines b answer s (event_lines (joined ps)))
   unfolding night_lines
   pieces_lines answer s ps e = rw e (written_from s [] [] s (held_of []) (answered_none b s (held_of [])) ps)

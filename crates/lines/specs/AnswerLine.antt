@@ -6,7 +6,6 @@ use Rattle.decimal.specs.Number.{digits}
 use Rattle.decimal.specs.Lines.{tab, line_feed, join}
 use Rattle.table.specs.declared.Refusal.TheVariants.{Malformed}
 use Rattle.table.specs.Refusals.{number_of}
-use Rattle.text.specs.declared.Reading.{Reading}
 use Rattle.text.specs.Read.{reading_number, reading_values}
 use Rattle.events.specs.declared.Turn.{Turn}
 use Rattle.events.specs.declared.Turn.TheVariants.{Run as Ran, Empty, Idle}
@@ -19,6 +18,7 @@ use Rattle.events.specs.declared.Told.TheVariants.{No, Released, Ticked}
 use Rattle.lines.specs.Words.{release_letter, tick_letter, another_letter, ok_word, no_word, run_word}
 use Rattle.lines.specs.Words.{empty_word, idle_word, done_word, cut_word, dash, table_word, mode_word}
 use Rattle.events.specs.declared.Event.{Event}
+use Rattle.text.specs.TableText.{Reading}
 
 -- "what, server, task"
 abbrev pub turn_fields : Turn → List (List ℕ)

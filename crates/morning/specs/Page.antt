@@ -1,13 +1,11 @@
 -- 02, No. 1, A morning report: "one page for each night's event file". A line for each server, for
 -- each task and for each mode, parted by tabs, each closed by a line feed.
-use Rattle.std.specs.Prelude.{List, [], ◌∷◌, ◌++◌, ℕ, zero, suc}
+use Rattle.std.specs.Prelude.{List, [], ◌∷◌, ◌++◌, ℕ, zero, suc, Err, Ok}
 use Rattle.laws.specs.Quoted.{bytes}
 use Rattle.decimal.specs.Number.{digits}
 use Rattle.decimal.specs.Lines.{closed}
 use Rattle.table.specs.declared.Mode.{Mode}
 use Rattle.table.specs.declared.Mode.TheVariants.{N, D1, D2}
-use Rattle.text.specs.declared.Reading.{Reading}
-use Rattle.text.specs.declared.Reading.TheVariants.{Taken, Refused, Equal}
 use Rattle.text.specs.Read.{read, shown}
 use Rattle.run.specs.declared.Run.{Run}
 use Rattle.events.specs.declared.Event.{Event}
@@ -16,6 +14,8 @@ use Rattle.lines.specs.Words.{mode_word}
 use Rattle.lines.specs.EventLine.{event_lines}
 use Rattle.lines.specs.AnswerLine.{printed, refused_fields}
 use Rattle.morning.specs.Numbers.{events_in, ServerNumbers, TaskNumbers, server_numbers, task_numbers, mode_number}
+use Rattle.text.specs.declared.ReadError.TheVariants.{Equal, Refused}
+use Rattle.text.specs.TableText.{Reading}
 
 -- `server⇥row⇥charged⇥empty⇥longest`
 abbrev pub server_line : ℕ → ServerNumbers → List ℕ
@@ -57,9 +57,9 @@ report_lines r es =
 
 -- A refused table prints only its `table` line, as the night does.
 unfoldable pub morning_lines : Reading → Run → List Event → List (List ℕ)
-morning_lines Taken r es = report_lines r es
-morning_lines (Refused why line field) r es = printed (refused_fields (Refused why line field)) ∷ []
-morning_lines (Equal first second) r es = printed (refused_fields (Equal first second)) ∷ []
+morning_lines (Ok tt) r es = report_lines r es
+morning_lines (Err (Refused why line field)) r es = printed (refused_fields (Err (Refused why line field))) ∷ []
+morning_lines (Err (Equal first second)) r es = printed (refused_fields (Err (Equal first second))) ∷ []
 
 -- a table file and an event file, and all that is printed
 unfoldable pub report : List ℕ → List ℕ → List ℕ

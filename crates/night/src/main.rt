@@ -11,13 +11,14 @@ ghost use Rattle.files.specs.Turns.{Lent};
 ghost use Rattle.night.specs.Pieces.{standing, piece_of, turn_of, NightReady};
 
 use files::How;
-use files::given::{Case, is_failed, say_refused};
+use files::given::{is_failed, say_refused};
 use files::pieces::{PIECE, ROOM, answer_last};
 use lines::{BATCH, Held, LONGEST_ANSWER, smaller_of};
 use run::Run;
 use std::io::Read;
 use std::process::ExitCode;
 use std::rt::Runtime;
+use table::Table;
 
 // A night so far: the run, the line that is held, how many bytes were made for the writer last, and
 // whether it goes on.
@@ -130,16 +131,13 @@ fn is_answered<R: Runtime>(rt: &R) -> bool {
         let _ = eprintln!(rt; "night: standard input is given twice");
         return false;
     }
-    let given = files::given::take_table(rt, &mut table);
-    let t = given.table;
-    let case = given.case;
-    let Case::Read(answer) = case else {
+    let Some(read) = files::given::take_table(rt, &mut table) else {
         return false;
     };
-    let said = say_refused(rt, answer);
-    if said.refused {
-        return said.written;
-    }
+    let t: Table = match say_refused(rt, read) {
+        Ok(table) => table,
+        Err(written) => return written,
+    };
     let started = scheduler::start(t);
     let run = started.run;
     let held = cutter::no_line();

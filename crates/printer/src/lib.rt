@@ -21,7 +21,7 @@ use decimal::put::{MOST_DIGITS, put_all, spell};
 use events::{Event, LINE_VALUES, Left, TOLD_VALUES, Turn};
 use lines::{LONGEST_ANSWER, Printed};
 use table::{Mode, Refusal, number_of};
-use text::Reading;
+use text::ReadError;
 
 // The two numbers that say an event line.
 #[derive(Clone, Copy)]
@@ -310,7 +310,7 @@ pub fn put_another(room: &mut [u8], at: usize) -> usize
 }
 
 // (A taken table has no such line, and would be told by number 0.)
-fn store_refused(a: Reading, room: &mut [u8], at: usize) -> usize
+fn store_refused(a: Result<(), ReadError>, room: &mut [u8], at: usize) -> usize
     requires { at + refused_bytes ≤ length room.old }
     ensures { Stores (line_stored (refused_fields a)) refused_bytes
         room.old at room.new result }
@@ -318,22 +318,24 @@ fn store_refused(a: Reading, room: &mut [u8], at: usize) -> usize
     let t = store_all(b"table", room, at);
     let b = store_all(b"\tno", room, t);
     match a {
-        Reading::Taken => store_last(0, room, b),
-        Reading::Refused { why, line, field } => {
-            let c = store_field(number_of(why), room, b);
-            let d = store_field(line as u64, room, c);
-            store_last(field as u64, room, d)
-        }
-        Reading::Equal { first, second } => {
-            let c = store_field(5, room, b);
-            let d = store_field(first as u64, room, c);
-            store_last(second as u64, room, d)
-        }
+        Ok(()) => store_last(0, room, b),
+        Err(error) => match error {
+            ReadError::Refused { why, line, field } => {
+                let c = store_field(number_of(why), room, b);
+                let d = store_field(line as u64, room, c);
+                store_last(field as u64, room, d)
+            }
+            ReadError::Equal { first, second } => {
+                let c = store_field(5, room, b);
+                let d = store_field(first as u64, room, c);
+                store_last(second as u64, room, d)
+            }
+        },
     }
 }
 
 // The line of a refused table.
-pub fn put_refused(a: Reading, room: &mut [u8], at: usize) -> usize
+pub fn put_refused(a: Result<(), ReadError>, room: &mut [u8], at: usize) -> usize
     ensures { Put (closed_line (refused_fields a)) room.old at room.new result }
 {
     let mut line = [0u8; LONGEST_ANSWER];

@@ -1,7 +1,7 @@
 -- What is told of a line, by number and field. A standing makes one test after the other, and each
 -- is a question of the page, in the same order and at the same field: so the first test that fails
 -- is the first question that does not hold. Assumes nothing.
-use Rattle.std.specs.Prelude.{if◌then◌else◌, None, Option, Some}
+use Rattle.std.specs.Prelude.{if◌then◌else◌, None, Option, Some, Ok}
 use mathlib.Core.Path.{◌≡◌, refl, sym, ap, ◌∙◌}
 use mathlib.Core.Bool.{Bool, true, false, not, ◌&&◌, ◌||◌}
 use mathlib.Core.List.{List, [], ◌∷◌, ◌++◌}
@@ -30,9 +30,7 @@ use Rattle.table.specs.declared.Refusal.{Refusal}
 use Rattle.table.specs.declared.Refusal.TheVariants.{Malformed, OutOfBounds, NotWhole}
 use Rattle.table.specs.declared.Refusal.TheVariants.{AbsentRow, OtherPartition, NotTimed}
 use Rattle.table.specs.declared.Refusal.TheVariants.{OtherServer, Falling}
-use Rattle.table.specs.declared.Standing.{Standing}
-use Rattle.table.specs.declared.Standing.TheVariants.{Kept, Broken}
-use Rattle.table.specs.Refusals.{number_of}
+use Rattle.table.specs.Refusals.{number_of, breaks, Standing}
 use Rattle.table.specs.Rows.{Rows, is_timed}
 use Rattle.table.specs.Rules.{stays_home, task_fault}
 use Rattle.text.specs.declared.Word.{Word}
@@ -55,7 +53,7 @@ use Rattle.units.specs.declared.Ticks.{Ticks}
 pub record Told (s : Standing) (qs : List {1} Asked) : Type 0 where
   pub exactly : (number field : ℕ) → Gives s number field ↔ Tells qs number field
 
-kept : Told Kept []
+kept : Told (Ok tt) []
 kept =
     record {
       exactly = λ number field. (
@@ -67,7 +65,7 @@ kept =
 -- one test and its question, above the others
 ask : (b : Bool) {P : Type 0} (why : Refusal) (field : ℕ) {r : Standing} {qs : List {1} Asked} →
     Tests b P → Told r qs →
-    Told (unless b say Broken why field else r) ((no number_of why at field unless P) ∷ qs)
+    Told (unless b say breaks why field else r) ((no number_of why at field unless P) ∷ qs)
 ask true why field t f =
     record {
       exactly =
@@ -105,7 +103,7 @@ data Asks (why : Refusal) : ℕ → List Bool → List {1} Asked → Type 1 wher
 -- the tests one by one
 abbrev told_from : Refusal → ℕ → List Bool → Standing → Standing
 told_from why k [] r = r
-told_from why k (b ∷ bs) r = unless b say Broken why k else told_from why (suc k) bs r
+told_from why k (b ∷ bs) r = unless b say breaks why k else told_from why (suc k) bs r
 
 asked_from : (why : Refusal) {k : ℕ} {bs : List Bool} {qs rs : List {1} Asked} {r : Standing} →
     Asks why k bs qs → Told r rs → Told (told_from why k bs r) (qs ++ rs)
@@ -115,7 +113,7 @@ asked_from why (unasked ts) f = asked_from why ts f
 
 -- the first of them that fails, found at a place counted from k on
 abbrev found_from : Refusal → ℕ → Option ℕ → Standing → Standing
-found_from why k (Some j) r = Broken why (k + j)
+found_from why k (Some j) r = breaks why (k + j)
 found_from why k None r = r
 
 past : (why : Refusal) (k : ℕ) (x : Option ℕ) (r : Standing) →
@@ -223,7 +221,7 @@ rules_of a l =
 
 formed_standing : (n : ℕ) (a : Rows) (l : Line) (x : Option ℕ) → malformed_at l ≡ None →
     standing n a (said_unless x l) ≡
-    (unless placed n a (word_of l) say Broken Malformed 0 else tell Malformed at x or rules_of a l)
+    (unless placed n a (word_of l) say breaks Malformed 0 else tell Malformed at x or rules_of a l)
 unfolding standing
 formed_standing n a l (Some field) e = refl
 formed_standing n a l None e = rw e

@@ -17,7 +17,6 @@ use Rattle.table.specs.declared.Refusal.TheVariants.{NoTask, LowInD2, QueueFull,
 use Rattle.table.specs.declared.Refusal.TheVariants.{CountSpent}
 use Rattle.table.specs.Rows.{table_of, task_at, is_low, is_d2}
 use Rattle.table.specs.Rules.{table_keeps}
-use Rattle.text.specs.declared.Reading.{Reading}
 use Rattle.text.specs.Read.{reading_number, reading_values, taken as takenRows, read, shown}
 use Rattle.text.proofs.RoundTrip.{table_rows, write_then_read, read_then_write, read_keeps}
 use Rattle.text.proofs.RoundTrip.{written_fits, taken_exactly}
@@ -62,6 +61,7 @@ use Rattle.promises.proofs.Reading.{is_taken_lem, refused_rows}
 use Rattle.promises.proofs.Tests.{◌and◌}
 use Rattle.promises.proofs.Asked.{line_told_lem, faults}
 use Rattle.promises.proofs.Rules.{times_whole_lem, no_phase_zero_lem}
+use Rattle.text.specs.TableText.{Reading}
 
 -- The reader: each-read of Reading.antt, and
 pub no_table_back : NoTableBack

@@ -8,7 +8,6 @@ use native.Mathlib.Omega.{arith}
 use Rattle.laws.specs.Quoted.{lined}
 use Rattle.table.specs.declared.Kind.TheVariants.{Timed}
 use Rattle.table.specs.declared.Mode.TheVariants.{N}
-use Rattle.text.specs.declared.Read.{Read}
 use Rattle.text.specs.Read.{reading_number}
 use Rattle.verdict.specs.declared.Verdict.TheVariants.{Response}
 use Rattle.run.specs.declared.Run.{Run}
@@ -30,12 +29,14 @@ use Rattle.promises.proofs.ByTheRules.{shaped_held}
 use Rattle.promises.proofs.Condition2.{every_tick}
 use Rattle.promises.proofs.RulesSettle.{charged_top}
 use Rattle.promises.proofs.Opened.{opened}
+use Rattle.table.specs.declared.Table.{Table}
+use Rattle.text.specs.TableText.{Read}
 
 pub no_reader : NoReader
 unfolding opened
 no_reader f h d =
     let text = lined example_text in
-    let e : reading_number (f text).answer ≡ 0 = ap (λ (r : Read). reading_number r.answer) (h text) in
+    let e : reading_number (f text).answer ≡ 0 = ap (λ (r : Read Table). reading_number r.answer) (h text) in
     omega (arith, e, d text)
 
 held_example : RunSized (fresh_run example)

@@ -1,5 +1,5 @@
 -- Request No. 6, proved: each statement of specs/FrameBox.antt from its facts. Assumes nothing.
-use Rattle.std.proofs.Common.{None, Option, Some}
+use Rattle.std.proofs.Common.{None, Option, Some, Ok}
 use mathlib.Core.Path.{◌≡◌, refl, sym, ap, subst, ◌∙◌}
 use mathlib.Core.Bool.{Bool, true, false, ◌&&◌}
 use mathlib.Core.List.{List}
@@ -13,7 +13,6 @@ use Rattle.laws.proofs.Choice.{if_ind, clash, and_left, and_right, and_true, wit
 use Rattle.laws.proofs.Highest.{highest_exactly, none_exactly}
 use Rattle.text.specs.Read.{reading_number}
 use Rattle.text.proofs.Refused.{reading_0}
-use Rattle.text.specs.declared.Reading.TheVariants.{Taken}
 use Rattle.slots.specs.Frame.{owner_at}
 use Rattle.slots.proofs.Frame.{frame_length, frame_is_the_rule, two_of_24, least_24, shares}
 use Rattle.events.specs.declared.Answer.TheVariants.{Ticked}
@@ -272,7 +271,7 @@ frame_read_so = frame_read_exactly
 
 -- From the text.
 read_taken : (text : List ℕ) → reading_number (frame_shown (frame_read text)).answer ≡ 0 →
-    (frame_read text).answer ≡ Taken
+    (frame_read text).answer ≡ Ok tt
 unfolding frame_shown
 read_taken text e = reading_0 (frame_read text).answer e
 
@@ -306,6 +305,6 @@ frame_from_the_text text = (
   λ n. frame_refused_no_table text (λ e. n (shown_number text e)),
 )
   where
-    shown_number : (text : List ℕ) → (frame_read text).answer ≡ Taken →
+    shown_number : (text : List ℕ) → (frame_read text).answer ≡ Ok tt →
         reading_number (frame_shown (frame_read text)).answer ≡ 0
     shown_number text e = ap reading_number (shown_answer text ∙ e)

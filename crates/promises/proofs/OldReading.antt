@@ -1,7 +1,7 @@
 -- Nothing but number 4 and the field moved: each line says what it said, its number is the old one,
 -- 41 to 45 being 4, and its row is the same; so line by line the text is told as before. A test
 -- that asks nothing of a field changes nothing where every test is asked. Assumes nothing.
-use Rattle.std.specs.Prelude.{if◌then◌else◌, None, Option, Some}
+use Rattle.std.specs.Prelude.{if◌then◌else◌, None, Option, Some, Ok, Err}
 use mathlib.Core.Path.{◌≡◌, refl}
 use mathlib.Core.Bool.{Bool, true, false, not, ◌&&◌, and_assoc}
 use mathlib.Core.List.{List, [], ◌∷◌}
@@ -21,9 +21,7 @@ use Rattle.table.specs.declared.Refusal.{Refusal}
 use Rattle.table.specs.declared.Refusal.TheVariants.{Malformed as MalformedWhy, OutOfBounds}
 use Rattle.table.specs.declared.Refusal.TheVariants.{NotWhole, AbsentRow, OtherPartition}
 use Rattle.table.specs.declared.Refusal.TheVariants.{NotTimed, OtherServer, Falling}
-use Rattle.table.specs.declared.Standing.{Standing}
-use Rattle.table.specs.declared.Standing.TheVariants.{Kept, Broken}
-use Rattle.table.specs.Refusals.{number_of, standing_number}
+use Rattle.table.specs.Refusals.{number_of, standing_number, breaks, Standing}
 use Rattle.table.specs.Pairs.{equal_servers, equal_tasks}
 use Rattle.table.specs.Rows.{Rows, no_rows}
 use Rattle.table.specs.Rules.{row_there, same_partition, degraded_timed, timed_at_home, task_fault}
@@ -115,7 +113,7 @@ number s = number_before (standing_number s)
 
 tests_before : (p : Bool) (bs cs : List Bool) (f : Standing) →
     number
-    (unless p say Broken MalformedWhy 0
+    (unless p say breaks MalformedWhy 0
     else tell OutOfBounds at first_failed bs
     or tell NotWhole at first_failed cs
     or f) ≡
@@ -125,7 +123,7 @@ tests_before p bs cs f =
   where
     go : (q : Bool) (x y : Option ℕ) →
         number
-        (unless q say Broken MalformedWhy 0 else tell OutOfBounds at x or tell NotWhole at y or f) ≡
+        (unless q say breaks MalformedWhy 0 else tell OutOfBounds at x or tell NotWhole at y or f) ≡
         (unless q say 1
         else unless not (is_found x) say 2
         else unless not (is_found y) say 3
@@ -146,14 +144,14 @@ fault_before ss home degraded limit =
   where
     go : (h d p t s r q : Bool) →
         number
-        (unless h say Broken AbsentRow 1
-        else unless d say Broken AbsentRow 2
-        else unless p say Broken OtherPartition 2
-        else unless t say Broken NotTimed 2
-        else unless s say Broken OtherServer 2
-        else unless r say Broken Falling 6
-        else unless q say Broken Falling 7
-        else Kept) ≡
+        (unless h say breaks AbsentRow 1
+        else unless d say breaks AbsentRow 2
+        else unless p say breaks OtherPartition 2
+        else unless t say breaks NotTimed 2
+        else unless s say breaks OtherServer 2
+        else unless r say breaks Falling 6
+        else unless q say breaks Falling 7
+        else (Ok tt)) ≡
         (unless h && d say 4
         else unless p say 4
         else unless t say 4
@@ -171,7 +169,7 @@ fault_before ss home degraded limit =
 
 -- a malformed line is 1, wherever it stands
 malformed_before : (p : Bool) (field : ℕ) →
-    number (unless p say Broken MalformedWhy 0 else Broken MalformedWhy field) ≡ 1
+    number (unless p say breaks MalformedWhy 0 else breaks MalformedWhy field) ≡ 1
 malformed_before true field = refl
 malformed_before false field = refl
 
@@ -180,9 +178,9 @@ standing_before : (n : ℕ) (a : Rows) (l : Line) →
 unfolding
     every standing placed bounds server_bounds task_bounds wholes server_whole fault
     old_standing old_placed old_bounds old_server_bounds old_task_bounds old_wholes old_server_whole old_fault
-standing_before n a (OfTick t) = tests_before (placed n a ATick) (bounds a (OfTick t)) [] Kept
+standing_before n a (OfTick t) = tests_before (placed n a ATick) (bounds a (OfTick t)) [] (Ok tt)
 standing_before n a (OfServer s) =
-    tests_before (placed n a AServer) (bounds a (OfServer s)) (wholes a (OfServer s)) Kept
+    tests_before (placed n a AServer) (bounds a (OfServer s)) (wholes a (OfServer s)) (Ok tt)
 standing_before n a (OfTask k) =
     rw (← fault_before a.servers k.home k.degraded (limits_of a.tick.0 k.limit))
     (tests_before (placed n a ATask) (bounds a (OfTask k)) [] (fault a (OfTask k)))
@@ -219,18 +217,18 @@ unfolding ended old_ended
 ended_before n a = unless_before (not (is_nil a.tasks)) MalformedWhy n _ _ (compared_before a)
 
 -- a line that breaks a rule had a number
-broken_before : (why : Refusal) (field : ℕ) → eqb (number (Broken why field)) 0 ≡ false
+broken_before : (why : Refusal) (field : ℕ) → eqb (number (breaks why field)) 0 ≡ false
 broken_before why field =
     if_ind (λ (m : ℕ). eqb m 0 ≡ false) (within 41 45 (number_of why)) (λ e. refl)
-    (λ e. ne_eqb (number_of why) 0 (λ z. kept ((standing_0 (Broken why field)).0 z)))
+    (λ e. ne_eqb (number_of why) 0 (λ z. kept ((standing_0 (breaks why field)).0 z)))
   where
-    kept : Broken why field ≡ Kept → ⊥
+    kept : breaks why field ≡ Ok tt → ⊥
     kept e = let c : ◌≡◌ {A = ℕ} 0 1 = cc in omega arith
 
 line_said_before : (n : ℕ) (s : Standing) (r : ReadRows) (o : OldAnswer) → as_before r ≡ o →
     as_before (line_said n s r) ≡ old_line_said n (number s) o
-line_said_before n Kept r o e = e
-line_said_before n (Broken why field) r o e = rw (broken_before why field)
+line_said_before n (Ok tt) r o e = e
+line_said_before n (Err f) r o e = rw (broken_before f.why f.field)
 
 from_before : (n : ℕ) (a : Rows) (ps : List (List ℕ)) →
     as_before (read_lines table_text n a ps) ≡ old_read_from n a ps

@@ -1,6 +1,6 @@
 -- The reader's cases: each gives its number, its line and its field, for 5 both lines, and every
 -- text is in one of them, so each is given exactly in its case. Assumes nothing.
-use Rattle.std.specs.Prelude.{if◌then◌else◌, None, Option, Some}
+use Rattle.std.specs.Prelude.{if◌then◌else◌, None, Option, Some, Ok, Err}
 use mathlib.Core.Path.{◌≡◌, refl, sym, ap, subst, ◌∙◌}
 use mathlib.Core.Bool.{Bool, true, false}
 use mathlib.Core.List.{List, [], ◌∷◌, ◌++◌, map}
@@ -15,13 +15,10 @@ use Rattle.decimal.specs.Lines.{line_feed, split}
 use Rattle.decimal.proofs.Lines.{split_some}
 use Rattle.table.specs.declared.Refusal.{Refusal}
 use Rattle.table.specs.declared.Refusal.TheVariants.{Malformed as MalformedWhy}
-use Rattle.table.specs.declared.Standing.{Standing}
-use Rattle.table.specs.declared.Standing.TheVariants.{Kept, Broken}
-use Rattle.table.specs.Refusals.{standing_number, standing_field}
+use Rattle.table.specs.Refusals.{standing_number, standing_field, breaks, Standing}
 use Rattle.table.specs.Rows.{Rows, no_rows, no_server, no_task}
 use Rattle.table.specs.Pairs.{equal_servers as pairOfServers, equal_tasks as pairOfTasks}
 use Rattle.table.proofs.Pairs.{Paired, is_pair, pair_is}
-use Rattle.text.specs.declared.Reading.TheVariants.{Taken}
 use Rattle.text.specs.Line.{no_line, read_line}
 use Rattle.text.specs.Standing.{is_nil}
 use Rattle.text.specs.TableText.{read_lines}
@@ -78,7 +75,7 @@ module _ (text : List ℕ) where
 
   -- parts 0 to n - 1 stand
   abbrev AllKept : ℕ → Type 0
-  AllKept n = (j : ℕ) → j < n → standing_at table_text 1 no_rows parts j ≡ Kept
+  AllKept n = (j : ℕ) → j < n → standing_at table_text 1 no_rows parts j ≡ Ok tt
 
   -- what stands after the last line feed
   abbrev rest : List ℕ
@@ -183,18 +180,18 @@ module _ (text : List ℕ) where
       (s : Standing) → standing_at table_text 1 no_rows parts n ≡ s → 1 ≤ standing_number s →
       (Comes (read text) (standing_number s) (suc n ∷ standing_field s ∷ []))
       × ((read text).rows ≡ no_rows)
-  first_fault_told n h l a Kept e b = absurd (omega arith)
-  first_fault_told n h l a (Broken why field) e b =
+  first_fault_told n h l a (Ok tt) e b = absurd (omega arith)
+  first_fault_told n h l a (Err f) e b =
       let z : 1 + n ≡ suc n = omega arith in
-      let q : read text ≡ refused why (1 + n) field =
+      let q : read text ≡ refused f.why (1 + n) f.field =
       short_read h
-      ∙ first_told table_text 1 no_rows parts n why field (omega (arith, one_more)) (stand_kept n a) e in
+      ∙ first_told table_text 1 no_rows parts n f.why f.field (omega (arith, one_more)) (stand_kept n a) e in
       rw (q, z) ((refl, refl), refl)
 
   -- each case gives its number and values; the text is taken, or its rows do not come back
   case_told : (k : ℕ) (values : List ℕ) → ReadCase text k values →
       Comes (read text) k values
-      × (((read text).answer ≡ Taken) ⊎ ((1 ≤ k) × ((read text).rows ≡ no_rows)))
+      × (((read text).answer ≡ Ok tt) ⊎ ((1 ≤ k) × ((read text).rows ≡ no_rows)))
   unfolding read ended compared
   case_told k values (too_long h) =
       rw (lt-leb (length text) 16384 h) ((refl, refl), inr (omega arith, refl))
@@ -248,7 +245,7 @@ module _ (text : List ℕ) where
 
   -- a closed line that does not stand has a number
   some_number : (n : ℕ) (why : Refusal) (field : ℕ) →
-      standing_at table_text 1 no_rows parts n ≡ Broken why field → 1 ≤ fault_at text (suc n)
+      standing_at table_text 1 no_rows parts n ≡ breaks why field → 1 ≤ fault_at text (suc n)
   some_number n why field e = go (le_or_lt 1 (fault_at text (suc n)))
     where
       go : (1 ≤ fault_at text (suc n)) ⊎ (fault_at text (suc n) < 1) → 1 ≤ fault_at text (suc n)
@@ -309,7 +306,7 @@ refused_rows text n =
     let t = (case_told text s.0 s.1 s.2).1 in
     elim t [ inl e ↦ absurd (n (ap reading_number e)) | inr p ↦ p.1 ]
 
-pub is_taken_lem : (text : List ℕ) → reading_number (read text).answer ≡ 0 → (read text).answer ≡ Taken
+pub is_taken_lem : (text : List ℕ) → reading_number (read text).answer ≡ 0 → (read text).answer ≡ Ok tt
 is_taken_lem text z =
     let s = some_case text in
     let t = case_told text s.0 s.1 s.2 in

@@ -1,6 +1,6 @@
 -- The rules of a table, of a state and of task times, as inequalities: each test holds exactly if
 -- its inequality does. Assumes nothing.
-use Rattle.std.proofs.Common.{None, Option, Some}
+use Rattle.std.proofs.Common.{None, Option, Some, Ok, Err}
 use mathlib.Core.Path.{◌≡◌, refl, ap, subst}
 use mathlib.Core.Bool.{Bool, true, false, ◌&&◌}
 use mathlib.Core.List.{List, [], ◌∷◌}
@@ -19,9 +19,7 @@ use Rattle.decimal.specs.Lines.{line_feed, split}
 use Rattle.table.specs.declared.ByMode.{ByMode}
 use Rattle.table.specs.declared.Server.{Server}
 use Rattle.table.specs.declared.Task.{Task}
-use Rattle.table.specs.declared.Standing.{Standing}
-use Rattle.table.specs.declared.Standing.TheVariants.{Kept, Broken}
-use Rattle.table.specs.Refusals.{is_kept}
+use Rattle.table.specs.Refusals.{is_kept, breaks, Standing}
 use Rattle.table.specs.declared.Level.{Level}
 use Rattle.table.specs.declared.Level.TheVariants.{LO, MI, HI}
 use Rattle.table.specs.declared.Mode.{Mode}
@@ -69,10 +67,10 @@ rows n p P f = (λ e i h. (f i).0 (all_at p n i e h), λ q. all_build p n (λ i 
 
 -- 41 to 45: none is told of a task exactly if it has none of these faults
 is_kept_lem : (s : Standing) → Tests (is_kept s) (Gives s 0 0)
-is_kept_lem Kept = (λ e. (refl, refl), λ p. refl)
-is_kept_lem (Broken why field) = (
+is_kept_lem (Ok tt) = (λ e. (refl, refl), λ p. refl)
+is_kept_lem (Err f) = (
   λ e. absurd (clash false e refl),
-  λ p. ap is_kept ((standing_0 (Broken why field)).0 p.0),
+  λ p. ap is_kept ((standing_0 (Err f)).0 p.0),
 )
 
 task_fits : (ss : List Server) (home degraded : ℕ) (limit : ByMode Ticks) →

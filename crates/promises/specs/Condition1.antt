@@ -27,8 +27,7 @@ use Rattle.table.specs.declared.Mode.TheVariants.{D2}
 use Rattle.table.specs.declared.Server.{Server}
 use Rattle.table.specs.declared.Task.{Task}
 use Rattle.table.specs.declared.Table.{Table}
-use Rattle.table.specs.declared.Standing.{Standing}
-use Rattle.table.specs.Refusals.{number_of, standing_number, standing_field}
+use Rattle.table.specs.Refusals.{number_of, standing_number, standing_field, Standing}
 use Rattle.table.specs.Rows.{Rows, rows_of, no_rows, no_table, no_server, no_task, server_at, task_at}
 use Rattle.table.specs.Rows.{period_at, phase_at, limit_at, largest}
 use Rattle.table.specs.Rules.{task_fault, table_keeps}
@@ -38,7 +37,6 @@ use Rattle.text.specs.declared.ServerLine.{ServerLine}
 use Rattle.text.specs.declared.TaskLine.{TaskLine}
 use Rattle.text.specs.declared.Line.{Line}
 use Rattle.text.specs.declared.Line.TheVariants.{OfTick, OfServer, OfTask, Malformed}
-use Rattle.text.specs.declared.Read.{Read}
 use Rattle.text.specs.Line.{field_at, server_said, task_said, leading, read_line}
 use Rattle.text.specs.Standing.{phase_said, limits_of, standing}
 use Rattle.text.specs.Read.{reading_number, reading_values, read, shown}
@@ -65,10 +63,11 @@ use Rattle.lines.specs.declared.Held.{Held}
 use Rattle.lines.specs.Cutting.{CutInto, cut_of}
 use Rattle.lines.specs.Print.{lines_lent, PrintedInto, print_of}
 use Rattle.lines.specs.Night.{night}
+use Rattle.text.specs.TableText.{Read}
 
 -- THE READER, numbers 1, 2, 3, 41 to 45 and 5. What the reader hands back for a text: the number,
 -- and the line and the field, for 5 both lines.
-abbrev pub read_as : List ℕ → Read
+abbrev pub read_as : List ℕ → Read Table
 read_as text = shown (read text)
 
 abbrev pub Reads : List ℕ → ℕ → List ℕ → Type 0

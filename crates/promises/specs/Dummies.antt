@@ -7,7 +7,6 @@ use Rattle.table.specs.declared.Table.{Table}
 use Rattle.table.specs.Rows.{capacity_at}
 use Rattle.table.specs.Rules.{table_keeps}
 use Rattle.table.specs.Inner.{Sized}
-use Rattle.text.specs.declared.Read.{Read}
 use Rattle.text.specs.Read.{reading_number, read, shown}
 use Rattle.verdict.specs.declared.Verdict.{Verdict}
 use Rattle.verdict.specs.declared.Verdict.TheVariants.{Misses}
@@ -23,9 +22,10 @@ use Rattle.run.specs.Release.{release_of}
 use Rattle.run.specs.Tick.{tick_of}
 use Rattle.events.specs.Count.{any_finished, any_cut}
 use Rattle.promises.specs.Condition2.{RunSized}
+use Rattle.text.specs.TableText.{Read}
 
 -- The contracts.
-abbrev pub Reads : (List ℕ → Read) → Type 0
+abbrev pub Reads : (List ℕ → Read Table) → Type 0
 Reads f = (text : List ℕ) → f text ≡ shown (read text)
 
 abbrev pub Releases : (Run → ℕ → Answered Run) → Type 0
@@ -40,7 +40,7 @@ Judges f = (t : Table) (i : ℕ) (m : Mode) → Sized t → f t i m ≡ verdict_
 -- "one refusing everything"
 abbrev pub NoReader : Type 0
 NoReader =
-    (f : List ℕ → Read) → Reads f → ((text : List ℕ) → 1 ≤ reading_number (f text).answer) → ⊥
+    (f : List ℕ → Read Table) → Reads f → ((text : List ℕ) → 1 ≤ reading_number (f text).answer) → ⊥
 
 abbrev pub NoRelease : Type 0
 NoRelease =

@@ -5,7 +5,7 @@
 -- the forms so shortened, what is imported for the old reading is what the request left alone. The
 -- phase of No. 7 stands in both readings: it came later, and has no number of its own.
 -- proofs/OldReading.antt proves the statement.
-use Rattle.std.specs.Prelude.{◌≡◌, Bool, true, false, not, ◌&&◌, List, [], ◌∷◌, ◌++◌, ℕ, ◌+◌, ◌*◌, leb, ltb, eqb, length, if◌then◌else◌, None, Option, Some}
+use Rattle.std.specs.Prelude.{◌≡◌, Bool, true, false, not, ◌&&◌, List, [], ◌∷◌, ◌++◌, ℕ, ◌+◌, ◌*◌, leb, ltb, eqb, length, if◌then◌else◌, None, Option, Some, Err, Ok}
 use Rattle.laws.specs.Choice.{unless◌say◌else◌, every, within}
 use Rattle.laws.specs.RoundUp.{up}
 use Rattle.decimal.specs.Lines.{tab, line_feed, split, same}
@@ -17,14 +17,14 @@ use Rattle.table.specs.Rules.{tick_keeps, same_partition, degraded_timed, timed_
 use Rattle.table.specs.Pairs.{equal_servers, equal_tasks}
 use Rattle.text.specs.declared.ServerLine.{ServerLine}
 use Rattle.text.specs.declared.TaskLine.{TaskLine}
-use Rattle.text.specs.declared.Reading.{Reading}
-use Rattle.text.specs.declared.Reading.TheVariants.{Taken, Refused, Equal}
 use Rattle.text.specs.Words.{tick_word, server_word, task_word}
 use Rattle.text.specs.Line.{Expected, fits, Form, tick_form, server_form, task_form}
 use Rattle.text.specs.Line.{micros_at, server_said, task_said}
 use Rattle.text.specs.Standing.{is_nil, phase_said, server_of, limits_of, task_of, whole}
 use Rattle.text.specs.Read.{reading_number, ReadRows, read}
 use Rattle.units.specs.declared.Ticks.{Ticks}
+use Rattle.text.specs.declared.ReadError.TheVariants.{Equal, Refused}
+use Rattle.text.specs.TableText.{Reading}
 
 -- What a line said: of one that is malformed neither the leading word nor a field.
 pub data OldLine : Type 0 where
@@ -226,9 +226,9 @@ abbrev pub number_before : ℕ → ℕ
 number_before number = if within 41 45 number then 4 else number
 
 abbrev pub lines_before : Reading → List ℕ
-lines_before Taken = []
-lines_before (Refused why line field) = line ∷ []
-lines_before (Equal first second) = first ∷ second ∷ []
+lines_before (Ok tt) = []
+lines_before (Err (Refused why line field)) = line ∷ []
+lines_before (Err (Equal first second)) = first ∷ second ∷ []
 
 abbrev pub as_before : ReadRows → OldAnswer
 as_before r =

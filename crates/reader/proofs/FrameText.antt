@@ -1,7 +1,7 @@
 -- The text of a frame box's table: a line told from its leading word and the one pass over its
 -- fields, how it stands by the count of the rows above it, and the table that holds those rows.
 -- Assumes nothing.
-use Rattle.std.specs.Prelude.{if◌then◌else◌, None, Some}
+use Rattle.std.specs.Prelude.{if◌then◌else◌, None, Some, Ok}
 use mathlib.Core.Path.{◌≡◌, refl, sym, ap, subst, ◌∙◌}
 use mathlib.Core.Bool.{Bool, true, false}
 use mathlib.Core.List.{List, [], ◌∷◌}
@@ -21,22 +21,19 @@ use Rattle.decimal.specs.Inner.Fields.{first_line, fields_from, first_field, fie
 use Rattle.decimal.proofs.Lines.{high}
 use Rattle.decimal.proofs.Inner.Fields.{field_more, field_last}
 use Rattle.table.specs.declared.Refusal.TheVariants.{Malformed as MalformedWhy}
-use Rattle.table.specs.declared.Standing.TheVariants.{Kept}
 use Rattle.table.specs.Rules.{tick_keeps}
 use Rattle.text.specs.declared.Word.{Word}
 use Rattle.text.specs.declared.Word.TheVariants.{ATick, AServer, ATask, Unknown}
-use Rattle.text.specs.declared.Reading.TheVariants.{Taken}
 use Rattle.text.specs.Words.{tick_word, task_word, server_word}
 use Rattle.decimal.specs.Lines.{same}
 use Rattle.text.specs.Line.{Form, tick_form, field_tests, form_tests, micros_at, leading}
 use Rattle.text.specs.Standing.{is_nil}
-use Rattle.text.specs.TableText.{refused_beside, equal_beside, read_lines}
+use Rattle.text.specs.TableText.{refused_beside, equal_beside, read_lines, Read}
 use Rattle.frametable.specs.declared.FrameTask.{FrameTask}
 use Rattle.frametable.specs.declared.FrameTaskLine.{FrameTaskLine}
 use Rattle.frametable.specs.declared.FrameLine.{FrameLine}
 use Rattle.frametable.specs.declared.FrameLine.TheVariants.{OfTick, OfTask, Malformed}
 use Rattle.frametable.specs.declared.FrameTable.{FrameTable}
-use Rattle.frametable.specs.declared.FrameRead.{FrameRead}
 use Rattle.frametable.specs.Rows.{FrameRows, no_frame_rows, no_frame_task, frame_rows_of, frame_table_of}
 use Rattle.frametable.specs.Rules.{frame_task_keeps, equal_frame_tasks}
 use Rattle.frametable.specs.Line.{frame_task_form, frame_task_said, frame_line_by, frame_line_of, read_frame_line}
@@ -191,7 +188,7 @@ pub record FrameTaskGrows (t : FrameTable) (k : FrameTaskLine) : Type 0 where
   pub room : t.ntasks < 64
 
 module _ (n : ℕ) (t : FrameTable) (r : FrameAbove n t) where
-  pub frame_task_grows : (k : FrameTaskLine) → frame_standing n (frame_rows_of t) (OfTask k) ≡ Kept → FrameTaskGrows t k
+  pub frame_task_grows : (k : FrameTaskLine) → frame_standing n (frame_rows_of t) (OfTask k) ≡ Ok tt → FrameTaskGrows t k
   unfolding frame_bounds
   frame_task_grows k e =
       let p = frame_line_keeps n (frame_rows_of t) (OfTask k) e in
@@ -218,7 +215,7 @@ frame_starts_from t ls e =
     ap (λ x. read_lines frame_text 1 x ls) (sym (ap frame_rows_of e ∙ frame_table_rows no_frame_rows))
 
 pub frame_above_next : (n : ℕ) (t : FrameTable) (l : FrameLine) → FrameAbove n t →
-    frame_standing n (frame_rows_of t) l ≡ Kept → FrameAbove (n + 1) (frame_table_of (frame_grown (frame_rows_of t) l))
+    frame_standing n (frame_rows_of t) l ≡ Ok tt → FrameAbove (n + 1) (frame_table_of (frame_grown (frame_rows_of t) l))
 unfolding frame_placed frame_bounds frame_grown every
 frame_above_next n t (OfTick u) r e =
     let p = frame_line_keeps n (frame_rows_of t) (OfTick u) e in
@@ -249,9 +246,9 @@ module _ (n : ℕ) (a : FrameRows) (some : is_nil a.tasks ≡ false) where
 
   pub frame_ended_taken : (t : FrameTable) → a ≡ frame_rows_of t → t ≡ frame_table_of (frame_rows_of t) →
       equal_frame_tasks a.tasks ≡ None →
-      ◌≡◌ {A = FrameRead} (record { answer = Taken; table = t }) (frame_shown (frame_ended n a))
+      ◌≡◌ {A = Read FrameTable} (record { answer = Ok tt; table = t }) (frame_shown (frame_ended n a))
   unfolding frame_ended frame_shown
-  frame_ended_taken t r w f = rw (some, f, r) (ap (λ (x : FrameTable). record { answer = Taken; table = x }) w)
+  frame_ended_taken t r w f = rw (some, f, r) (ap (λ (x : FrameTable). record { answer = Ok tt; table = x }) w)
 
 -- what the rule of a row says of its numbers
 pub record FrameTaskFits (t : ℕ) (k : FrameTaskLine) : Type 0 where

@@ -1,6 +1,7 @@
 -- The table that is being read: it holds the rows above a line, and with that line's row it holds
 -- those above the next. Assumes nothing.
 pub mod Fields
+use Rattle.std.proofs.Common.{Ok}
 use mathlib.Core.Path.{◌≡◌, refl, sym, ap, ◌∙◌}
 use mathlib.Core.Bool.{true}
 use mathlib.Core.List.{List, [], ◌∷◌, ◌++◌, append_assoc}
@@ -25,7 +26,6 @@ use Rattle.text.specs.declared.Word.{Word}
 use Rattle.text.specs.declared.Word.TheVariants.{ATick, AServer, ATask, Unknown}
 use Rattle.text.specs.declared.Line.{Line}
 use Rattle.text.specs.declared.Line.TheVariants.{OfTick, OfServer, OfTask, Malformed}
-use Rattle.table.specs.declared.Standing.TheVariants.{Kept}
 use Rattle.text.specs.Standing.{is_nil, placed, server_bounds, bounds, fault, standing, grown}
 use Rattle.text.specs.Standing.{server_of, limits_of, task_of}
 use Rattle.reader.specs.Inner.{Above, placed_by}
@@ -184,7 +184,7 @@ pub record TaskGrows (t : Table) (k : TaskLine) : Type 0 where
   pub room : t.ntasks < 64
 
 module _ (n : ℕ) (t : Table) (r : Above n t) where
-  pub server_grows : (s : ServerLine) → standing n (rows_of t) (OfServer s) ≡ Kept → ServerGrows t s
+  pub server_grows : (s : ServerLine) → standing n (rows_of t) (OfServer s) ≡ Ok tt → ServerGrows t s
   unfolding bounds
   server_grows s e =
       let p = standing_keeps n (rows_of t) (OfServer s) e in
@@ -195,7 +195,7 @@ module _ (n : ℕ) (t : Table) (r : Above n t) where
         room = (server_within t.nservers t.tick.0 s b).room;
       }
 
-  pub task_grows : (k : TaskLine) → standing n (rows_of t) (OfTask k) ≡ Kept → TaskGrows t k
+  pub task_grows : (k : TaskLine) → standing n (rows_of t) (OfTask k) ≡ Ok tt → TaskGrows t k
   unfolding bounds fault
   task_grows k e =
       let p = standing_keeps n (rows_of t) (OfTask k) e in
@@ -221,7 +221,7 @@ above_rows n a s k f b =
 pub above_first : Above 1 (table_of no_rows)
 above_first = above_rows 1 no_rows (omega arith) (omega arith) (λ h. refl) (λ h. absurd (omega arith))
 
-pub above_next : (n : ℕ) (t : Table) (l : Line) → Above n t → standing n (rows_of t) l ≡ Kept →
+pub above_next : (n : ℕ) (t : Table) (l : Line) → Above n t → standing n (rows_of t) l ≡ Ok tt →
     Above (n + 1) (table_of (grown (rows_of t) l))
 unfolding placed bounds grown every
 above_next n t (OfTick u) r e =

@@ -1,6 +1,6 @@
 -- A whole text, read line by line: the table begins without rows, and at the end the rows are
 -- compared, and lines are told from rows. Assumes nothing.
-use Rattle.std.proofs.Common.{None, Some}
+use Rattle.std.proofs.Common.{None, Some, Ok}
 use mathlib.Core.Path.{◌≡◌, sym, ap, ◌∙◌, subst}
 use mathlib.Core.Bool.{true, false}
 use mathlib.Core.List.{List}
@@ -14,11 +14,9 @@ use Rattle.table.specs.declared.Refusal.TheVariants.{Malformed}
 use Rattle.table.specs.Pairs.{first_pair, equal_servers, equal_tasks}
 use Rattle.table.specs.Rows.{Rows, no_rows, rows_of, table_of}
 use Rattle.table.proofs.Pairs.{pair_found}
-use Rattle.text.specs.declared.Reading.TheVariants.{Taken}
-use Rattle.text.specs.declared.Read.{Read}
 use Rattle.text.specs.Line.{read_line}
 use Rattle.text.specs.Standing.{is_nil}
-use Rattle.text.specs.TableText.{read_lines}
+use Rattle.text.specs.TableText.{read_lines, Read}
 use Rattle.text.specs.Read.{refused, equal, compared, ended, table_text, shown}
 use Rattle.reader.specs.declared.forms.LineRead.{LineRead}
 use Rattle.reader.specs.Inner.{Above}
@@ -51,10 +49,10 @@ module _ (n : ℕ) (a : Rows) (some : is_nil a.tasks ≡ false) where
 
     pub ended_taken : (t : Table) → a ≡ rows_of t → t ≡ table_of (rows_of t) →
         equal_tasks a.tasks ≡ None →
-        ◌≡◌ {A = Read} (record { answer = Taken; table = t }) (shown (ended n a))
+        ◌≡◌ {A = Read Table} (record { answer = Ok tt; table = t }) (shown (ended n a))
     unfolding ended compared shown
     ended_taken t r w f =
-        rw (some, e, f, r) (ap (λ (x : Table). record { answer = Taken; table = x }) w)
+        rw (some, e, f, r) (ap (λ (x : Table). record { answer = Ok tt; table = x }) w)
 
 -- before the first line
 pub starts : (t : Table) → t ≡ table_of no_rows → Above 1 t

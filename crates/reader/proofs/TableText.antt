@@ -1,5 +1,6 @@
 -- A whole text, of whatever kind the table is, read line by line: what a loop at a line has yet to
 -- find out is what is said of the lines from there on. Assumes nothing.
+use Rattle.std.proofs.Common.{Ok}
 use mathlib.Core.Path.{◌≡◌, sym, ap, ◌∙◌}
 use mathlib.Core.List.{List, ◌∷◌}
 use Prim.Native.Nat.{ℕ, suc, ◌+◌, ◌-◌, ◌≤◌, ◌<◌}
@@ -12,10 +13,10 @@ use Rattle.decimal.proofs.Lines.{split_some}
 use Rattle.decimal.proofs.Inner.Fields.{line_closed, line_open}
 use Rattle.table.specs.declared.Refusal.{Refusal}
 use Rattle.table.specs.declared.Refusal.TheVariants.{Malformed}
-use Rattle.table.specs.declared.Standing.TheVariants.{Kept, Broken}
 use Rattle.text.specs.TableText.{refused_beside, line_told, TableText, read_lines}
 use Rattle.text.proofs.Standing.{not_nil}
 use Rattle.text.proofs.TableText.{from_line}
+use Rattle.table.specs.Refusals.{breaks}
 
 -- what is lent of the text, from a place on
 pub lent : (text : List ℕ) (at : ℕ) → take (length text - at) (drop at text) ≡ drop at text
@@ -57,12 +58,12 @@ module _ {A L : Type 0} (k : TableText A L) where
         )
 
     pub from_broken : (l : L) (why : Refusal) (field : ℕ) → e < length text →
-        l ≡ k.says (first_line (drop from text)) → k.stands n a l ≡ Broken why field →
+        l ≡ k.says (first_line (drop from text)) → k.stands n a l ≡ breaks why field →
         refused_beside k.none why n field ≡ read_lines k n a (split line_feed (drop from text))
     from_broken l why field h q j = rw j at (from_closed l h q)
 
     pub from_kept : (l : L) (b : A) → e < length text → l ≡ k.says (first_line (drop from text)) →
-        k.stands n a l ≡ Kept → b ≡ k.grows a l →
+        k.stands n a l ≡ Ok tt → b ≡ k.grows a l →
         read_lines k n a (split line_feed (drop from text)) ≡
         read_lines k (n + 1) b (split line_feed (drop (e + 1) text))
     from_kept l b h q j g =

@@ -4,7 +4,7 @@
 pub mod Fields
 pub mod Lines
 pub mod Frame
-use Rattle.std.specs.Prelude.{◌≡◌, Bool, true, false, not, ◌&&◌, [], ◌∷◌, ℕ, ◌≤◌, ◌<◌, ltb, eqb}
+use Rattle.std.specs.Prelude.{◌≡◌, Bool, true, false, not, ◌&&◌, [], ◌∷◌, ℕ, ◌≤◌, ◌<◌, ltb, eqb, Ok}
 use Rattle.laws.specs.Choice.{unless◌say◌else◌}
 use Rattle.laws.specs.Search.{first_failed}
 use Rattle.laws.specs.RoundUp.{up}
@@ -12,8 +12,6 @@ use Rattle.units.specs.declared.Micros.{Micros}
 use Rattle.table.specs.declared.Server.{Server}
 use Rattle.table.specs.declared.Table.{Table}
 use Rattle.table.specs.declared.Refusal.TheVariants.{Malformed, OutOfBounds, NotWhole}
-use Rattle.table.specs.declared.Standing.{Standing}
-use Rattle.table.specs.declared.Standing.TheVariants.{Kept, Broken}
 use Rattle.table.specs.Rows.{rows_of, table_of}
 use Rattle.table.specs.Rules.{tick_keeps}
 use Rattle.table.specs.Inner.{place_in, rows_fault}
@@ -27,6 +25,7 @@ use Rattle.text.specs.declared.Line.TheVariants.{OfTick, OfServer, OfTask, Malfo
 use Rattle.text.specs.Line.{word_of}
 use Rattle.reader.specs.declared.rules.Named.{Named}
 use Rattle.text.specs.Standing.{anything, server_bounds, server_whole, task_bounds, limits_of, tell◌at◌or◌}
+use Rattle.table.specs.Refusals.{breaks, Standing}
 
 -- The table holds the rows above line n and nothing else. All lines but the first stand below a
 -- `tick` line.
@@ -51,13 +50,13 @@ placed_by n servers tasks Unknown = false
 -- What `standing` says of each kind of line in its place, by what it asks of the rows above: how
 -- many there are, and for a task what was read for the two that it names.
 abbrev pub tick_standing : Micros → Standing
-tick_standing u = tell OutOfBounds at first_failed (anything ∷ tick_keeps u.0 ∷ []) or Kept
+tick_standing u = tell OutOfBounds at first_failed (anything ∷ tick_keeps u.0 ∷ []) or (Ok tt)
 
 abbrev pub server_standing : ℕ → ℕ → ServerLine → Standing
 server_standing tick servers s =
     tell OutOfBounds at first_failed (server_bounds servers tick s)
     or tell NotWhole at first_failed (server_whole tick s)
-    or Kept
+    or (Ok tt)
 
 abbrev pub task_standing : ℕ → Server → Server → ℕ → ℕ → TaskLine → Standing
 task_standing tick h d count tasks k =
@@ -79,9 +78,9 @@ abbrev pub in_place : ℕ → ℕ → ℕ → Server → Server → Line → Sta
 in_place tick servers tasks h d (OfTick u) = tick_standing u
 in_place tick servers tasks h d (OfServer s) = server_standing tick servers s
 in_place tick servers tasks h d (OfTask k) = task_standing tick h d servers tasks k
-in_place tick servers tasks h d (NoForm word field) = Broken Malformed field
+in_place tick servers tasks h d (NoForm word field) = breaks Malformed field
 
 abbrev pub standing_by : ℕ → ℕ → ℕ → ℕ → Server → Server → Line → Standing
 standing_by n tick servers tasks h d l =
-    unless placed_by n servers tasks (word_of l) say Broken Malformed 0
+    unless placed_by n servers tasks (word_of l) say breaks Malformed 0
     else in_place tick servers tasks h d l

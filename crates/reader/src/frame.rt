@@ -7,17 +7,17 @@ ghost use Rattle.laws.specs.Choice.{every};
 ghost use Rattle.laws.specs.Search.{first_failed};
 ghost use Rattle.table.specs.Rules.{tick_keeps};
 ghost use Rattle.text.specs.declared.Word.TheVariants.{ATick, ATask};
-ghost use Rattle.text.specs.TableText.{refused_beside, equal_beside};
-ghost use Rattle.frametable.specs.Rows.{no_frame_rows, frame_rows_of};
+ghost use Rattle.text.specs.TableText.{handed};
+ghost use Rattle.frametable.specs.Rows.{frame_rows_of};
 ghost use Rattle.frametable.specs.Rules.{frame_task_keeps};
 ghost use Rattle.frametable.specs.Line.{frame_word_of};
 ghost use Rattle.frametable.specs.Text.{frame_task_of, frame_placed, frame_task_bounds, frame_ended, frame_read, frame_shown};
 ghost use Rattle.reader.specs.Inner.Frame.{FrameAbove, frame_behind, first_frame_read, frame_task_standing, frame_standing_by};
 
-use crate::{fields, forms, rows, rules};
-use frametable::{FrameLine, FrameRead, FrameTable, FrameTask, FrameTaskLine};
-use table::{Refusal, Standing, TASKS, THE_LINE};
-use text::{LONGEST_TEXT, Reading, Word};
+use crate::{FromText, fields, forms, rows, rules};
+use frametable::{FrameLine, FrameTable, FrameTask, FrameTaskLine};
+use table::{Fault, Refusal, TASKS, THE_LINE};
+use text::{LONGEST_TEXT, ReadError, Word};
 use units::Micros;
 
 // What a line says, and where it ends.
@@ -114,29 +114,29 @@ fn word_of(l: FrameLine) -> Word
 }
 
 // A task's line, in its place.
-fn task_standing(tick: Micros, tasks: usize, k: FrameTaskLine) -> Standing
+fn task_standing(tick: Micros, tasks: usize, k: FrameTaskLine) -> Result<(), Fault>
     requires { tick_keeps tick.0 ≡ true }
     ensures { result ≡ frame_task_standing tick.0 tasks k }
 {
     if let Some(field) = task_bounds(tasks, tick, k) {
-        return Standing::Broken(Refusal::OutOfBounds, field);
+        return Err(Fault { why: Refusal::OutOfBounds, field });
     }
-    Standing::Kept
+    Ok(())
 }
 
 // n is the line's number. Of the rows above it these are the tick and how many there are.
-fn line_standing(n: usize, tick: Micros, tasks: usize, l: FrameLine) -> Standing
+fn line_standing(n: usize, tick: Micros, tasks: usize, l: FrameLine) -> Result<(), Fault>
     requires { 1 < n → tick_keeps tick.0 ≡ true }
     ensures { result ≡ frame_standing_by n tick.0 tasks l }
 {
     let word = word_of(l);
     if !is_placed(n, word) {
-        return Standing::Broken(Refusal::Malformed, THE_LINE);
+        return Err(Fault { why: Refusal::Malformed, field: THE_LINE });
     }
     match l {
         FrameLine::OfTick(u) => rules::tick_standing(u),
         FrameLine::OfTask(k) => task_standing(tick, tasks, k),
-        FrameLine::Malformed(_, field) => Standing::Broken(Refusal::Malformed, field),
+        FrameLine::Malformed(_, field) => Err(Fault { why: Refusal::Malformed, field }),
     }
 }
 
@@ -154,54 +154,39 @@ fn task_row(tick: Micros, k: FrameTaskLine) -> FrameTask
     }
 }
 
-fn refuse(why: Refusal, line: usize, field: usize) -> FrameRead
-    ensures { result ≡ frame_shown (refused_beside no_frame_rows why line field) }
-{
-    let none = frametable::no_frame_table();
-    FrameRead {
-        answer: Reading::Refused { why, line, field },
-        table: none,
-    }
-}
-
-fn refuse_pair(first: usize, second: usize) -> FrameRead
-    ensures { result ≡ frame_shown (equal_beside no_frame_rows first second) }
-{
-    let none = frametable::no_frame_table();
-    FrameRead {
-        answer: Reading::Equal { first, second },
-        table: none,
-    }
-}
-
 // The text ends before line n, t holding its rows. Row 0 stands on line 2.
-fn end(n: usize, t: FrameTable) -> FrameRead
+fn end(n: usize, t: FrameTable) -> Result<FrameTable, ReadError>
     requires { FrameAbove n t }
-    ensures { result ≡ frame_shown (frame_ended n (frame_rows_of t)) }
+    ensures { result ≡ handed (frame_shown (frame_ended n (frame_rows_of t))) }
 {
-    let tasks = t.ntasks;
-    if tasks == 0 {
-        return refuse(Refusal::Malformed, n, THE_LINE);
+    if t.ntasks == 0 {
+        return Err(ReadError::Refused {
+            why: Refusal::Malformed,
+            line: n,
+            field: THE_LINE,
+        });
     }
-    let ks = t.tasks;
-    let p = frametable::equal_frame_tasks(ks, tasks);
-    if let Some((i, j)) = p {
-        return refuse_pair(2 + i, 2 + j);
+    if let Some((i, j)) = frametable::equal_frame_tasks(t.tasks, t.ntasks) {
+        return Err(ReadError::Equal {
+            first: 2 + i,
+            second: 2 + j,
+        });
     }
-    FrameRead {
-        answer: Reading::Taken,
-        table: t,
-    }
+    Ok(t)
 }
 
 // What a text says: its table, or why it is none. Line n begins at `at`, and the text is lent from
 // there on; the walk that reads the line finds where it ends, and its row is put behind those in
 // use.
-pub fn read_frame(text: &[u8]) -> FrameRead
-    ensures { result ≡ frame_shown (frame_read text.now) }
+pub fn read_frame(text: &[u8]) -> Result<FrameTable, ReadError>
+    ensures { result ≡ handed (frame_shown (frame_read text.now)) }
 {
     if LONGEST_TEXT < text.len() {
-        return refuse(Refusal::OutOfBounds, 0, THE_LINE);
+        return Err(ReadError::Refused {
+            why: Refusal::OutOfBounds,
+            line: 0,
+            field: THE_LINE,
+        });
     }
     let mut t = frametable::no_frame_table();
     let mut at = 0;
@@ -213,26 +198,38 @@ pub fn read_frame(text: &[u8]) -> FrameRead
         let r = read_line(&text[at..]);
         let e = at + r.end;
         if e == text.len() {
-            return refuse(Refusal::Malformed, n, THE_LINE);
+            return Err(ReadError::Refused {
+                why: Refusal::Malformed,
+                line: n,
+                field: THE_LINE,
+            });
         }
-        let l = r.line;
-        let standing = line_standing(n, t.tick, t.ntasks, l);
-        if let Standing::Broken(why, field) = standing {
-            return refuse(why, n, field);
+        if let Err(fault) = line_standing(n, t.tick, t.ntasks, r.line) {
+            return Err(ReadError::Refused {
+                why: fault.why,
+                line: n,
+                field: fault.field,
+            });
         }
-        match l {
+        match r.line {
             FrameLine::OfTick(u) => {
                 t.tick = u;
             }
             FrameLine::OfTask(k) => {
-                let count = t.ntasks;
-                let tick = t.tick;
-                t.tasks[count] = task_row(tick, k);
-                t.ntasks = count + 1;
+                t.tasks[t.ntasks] = task_row(t.tick, k);
+                t.ntasks += 1;
             }
             FrameLine::Malformed(_, _) => {}
         }
         at = e + 1;
         n += 1;
+    }
+}
+
+impl FromText for FrameTable {
+    ghost read_of = { λ text. handed (frame_shown (frame_read text)) };
+
+    fn from_text(text: &[u8]) -> Result<Self, ReadError> {
+        read_frame(text)
     }
 }

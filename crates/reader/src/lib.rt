@@ -9,60 +9,43 @@ pub mod frame;
 mod rows;
 mod rules;
 
-ghost use Rattle.std.specs.Prelude.{◌≡◌};
+ghost use Rattle.std.specs.Prelude.{◌≡◌, ℕ, List, Result};
 ghost use Rattle.table.specs.Rows.{rows_of};
-ghost use Rattle.text.specs.Read.{refused, equal, ended, read, shown};
+ghost use Rattle.text.specs.declared.ReadError.{ReadError};
+ghost use Rattle.text.specs.TableText.{handed};
+ghost use Rattle.text.specs.Read.{ended, read, shown};
 ghost use Rattle.reader.specs.Inner.{Above};
 
-use table::{Refusal, Standing, THE_LINE, Table};
-use text::{LONGEST_TEXT, Line, Read, Reading};
-
-fn refuse(why: Refusal, line: usize, field: usize) -> Read
-    ensures { result ≡ shown (refused why line field) }
-{
-    let none = table::no_table();
-    Read {
-        answer: Reading::Refused { why, line, field },
-        table: none,
-    }
-}
-
-fn refuse_pair(first: usize, second: usize) -> Read
-    ensures { result ≡ shown (equal first second) }
-{
-    let none = table::no_table();
-    Read {
-        answer: Reading::Equal { first, second },
-        table: none,
-    }
-}
+use table::{Refusal, THE_LINE, Table};
+use text::{LONGEST_TEXT, Line, ReadError};
 
 // The text ends before line n, t holding its rows. "5 for the first pair of server rows with equal
 // priority": row 0 stands on line 2. "then the same for tasks": they stand below the servers.
-fn end(n: usize, t: Table) -> Read
+fn end(n: usize, t: Table) -> Result<Table, ReadError>
     requires { Above n t }
-    ensures { result ≡ shown (ended n (rows_of t)) }
+    ensures { result ≡ handed (shown (ended n (rows_of t))) }
 {
-    let servers = t.nservers;
-    let tasks = t.ntasks;
-    if tasks == 0 {
-        return refuse(Refusal::Malformed, n, THE_LINE);
+    if t.ntasks == 0 {
+        return Err(ReadError::Refused {
+            why: Refusal::Malformed,
+            line: n,
+            field: THE_LINE,
+        });
     }
-    let ss = t.servers;
-    let p = table::equal_servers(ss, servers);
-    if let Some((i, j)) = p {
-        return refuse_pair(2 + i, 2 + j);
+    if let Some((i, j)) = table::equal_servers(t.servers, t.nservers) {
+        return Err(ReadError::Equal {
+            first: 2 + i,
+            second: 2 + j,
+        });
     }
-    let top = 2 + servers;
-    let ks = t.tasks;
-    let q = table::equal_tasks(ks, tasks);
-    if let Some((i, j)) = q {
-        return refuse_pair(top + i, top + j);
+    let top = 2 + t.nservers;
+    if let Some((i, j)) = table::equal_tasks(t.tasks, t.ntasks) {
+        return Err(ReadError::Equal {
+            first: top + i,
+            second: top + j,
+        });
     }
-    Read {
-        answer: Reading::Taken,
-        table: t,
-    }
+    Ok(t)
 }
 
 // What a text says: its table, or why it is none. "a line begins anywhere in the lent text and is
@@ -70,11 +53,15 @@ fn end(n: usize, t: Table) -> Read
 // line finds where it ends. A line is judged by the two rows that it names, and its row is put
 // behind those in use: a table or an array of rows handed to a function would be copied whole, for
 // every line.
-pub fn read_table(text: &[u8]) -> Read
-    ensures { result ≡ shown (read text.now) }
+pub fn read_table(text: &[u8]) -> Result<Table, ReadError>
+    ensures { result ≡ handed (shown (read text.now)) }
 {
     if LONGEST_TEXT < text.len() {
-        return refuse(Refusal::OutOfBounds, 0, THE_LINE);
+        return Err(ReadError::Refused {
+            why: Refusal::OutOfBounds,
+            line: 0,
+            field: THE_LINE,
+        });
     }
     let mut t = table::no_table();
     let mut at = 0;
@@ -86,37 +73,54 @@ pub fn read_table(text: &[u8]) -> Read
         let r = forms::read_line(&text[at..]);
         let e = at + r.end;
         if e == text.len() {
-            return refuse(Refusal::Malformed, n, THE_LINE);
+            return Err(ReadError::Refused {
+                why: Refusal::Malformed,
+                line: n,
+                field: THE_LINE,
+            });
         }
-        let l = r.line;
-        let named = rules::named_rows(l);
-        let i = named.home;
-        let j = named.degraded;
-        let h = t.servers[i];
-        let d = t.servers[j];
-        let standing = rules::line_standing(n, t.tick, t.nservers, t.ntasks, h, d, l);
-        if let Standing::Broken(why, field) = standing {
-            return refuse(why, n, field);
+        let named = rules::named_rows(r.line);
+        let h = t.servers[named.home];
+        let d = t.servers[named.degraded];
+        let standing = rules::line_standing(n, t.tick, t.nservers, t.ntasks, h, d, r.line);
+        if let Err(fault) = standing {
+            return Err(ReadError::Refused {
+                why: fault.why,
+                line: n,
+                field: fault.field,
+            });
         }
-        match l {
+        match r.line {
             Line::OfTick(u) => {
                 t.tick = u;
             }
             Line::OfServer(s) => {
-                let count = t.nservers;
-                let tick = t.tick;
-                t.servers[count] = rows::server_row(count, tick, s);
-                t.nservers = count + 1;
+                t.servers[t.nservers] = rows::server_row(t.nservers, t.tick, s);
+                t.nservers += 1;
             }
             Line::OfTask(k) => {
-                let count = t.ntasks;
-                let tick = t.tick;
-                t.tasks[count] = rows::task_row(tick, k);
-                t.ntasks = count + 1;
+                t.tasks[t.ntasks] = rows::task_row(t.tick, k);
+                t.ntasks += 1;
             }
             Line::Malformed(_, _) => {}
         }
         at = e + 1;
         n += 1;
+    }
+}
+
+// A kind of table that is read from a text.
+pub trait FromText {
+    ghost read_of: { List ℕ → Result Self ReadError };
+
+    fn from_text(text: &[u8]) -> Result<Self, ReadError>
+        ensures { result ≡ read_of text.now };
+}
+
+impl FromText for Table {
+    ghost read_of = { λ text. handed (shown (read text)) };
+
+    fn from_text(text: &[u8]) -> Result<Self, ReadError> {
+        read_table(text)
     }
 }

@@ -13,7 +13,7 @@ ghost use Rattle.reader.specs.Inner.{placed_by, tick_standing, server_standing, 
 ghost use Rattle.reader.specs.Inner.{named_rows, standing_by};
 
 use crate::rows;
-use table::{Refusal, SERVERS, Server, Standing, TASKS, THE_LINE};
+use table::{Refusal, SERVERS, Server, Fault, TASKS, THE_LINE};
 use text::{Line, ServerLine, TaskLine, Word};
 use units::Micros;
 
@@ -118,26 +118,26 @@ fn word_of(l: Line) -> Word
 }
 
 // Lines of each kind, in their place.
-pub(crate) fn tick_standing(u: Micros) -> Standing
+pub(crate) fn tick_standing(u: Micros) -> Result<(), Fault>
     ensures { result ≡ tick_standing u }
 {
     if !laws::is_within(1, 10000, u.0) {
-        return Standing::Broken(Refusal::OutOfBounds, 1);
+        return Err(Fault { why: Refusal::OutOfBounds, field: 1 });
     }
-    Standing::Kept
+    Ok(())
 }
 
-fn server_standing(tick: Micros, servers: usize, s: ServerLine) -> Standing
+fn server_standing(tick: Micros, servers: usize, s: ServerLine) -> Result<(), Fault>
     requires { tick_keeps tick.0 ≡ true }
     ensures { result ≡ server_standing tick.0 servers s }
 {
     if let Some(field) = server_bounds(servers, tick, s) {
-        return Standing::Broken(Refusal::OutOfBounds, field);
+        return Err(Fault { why: Refusal::OutOfBounds, field });
     }
     if let Some(field) = server_whole(tick, s) {
-        return Standing::Broken(Refusal::NotWhole, field);
+        return Err(Fault { why: Refusal::NotWhole, field });
     }
-    Standing::Kept
+    Ok(())
 }
 
 fn task_standing(
@@ -147,12 +147,12 @@ fn task_standing(
     count: usize,
     tasks: usize,
     k: TaskLine,
-) -> Standing
+) -> Result<(), Fault>
     requires { tick_keeps tick.0 ≡ true }
     ensures { result ≡ task_standing tick.0 h d count tasks k }
 {
     if let Some(field) = task_bounds(tasks, tick, k) {
-        return Standing::Broken(Refusal::OutOfBounds, field);
+        return Err(Fault { why: Refusal::OutOfBounds, field });
     }
     let x = k.limit;
     let limit = rows::limits(x, tick);
@@ -196,18 +196,18 @@ pub(crate) fn line_standing(
     h: Server,
     d: Server,
     l: Line,
-) -> Standing
+) -> Result<(), Fault>
     requires { (n ≤ 1 → servers ≡ 0) × (1 < n → tick_keeps tick.0 ≡ true) }
     ensures { result ≡ standing_by n tick.0 servers tasks h d l }
 {
     let word = word_of(l);
     if !is_placed(n, servers, tasks, word) {
-        return Standing::Broken(Refusal::Malformed, THE_LINE);
+        return Err(Fault { why: Refusal::Malformed, field: THE_LINE });
     }
     match l {
         Line::OfTick(u) => tick_standing(u),
         Line::OfServer(s) => server_standing(tick, servers, s),
         Line::OfTask(k) => task_standing(tick, h, d, servers, tasks, k),
-        Line::Malformed(_, field) => Standing::Broken(Refusal::Malformed, field),
+        Line::Malformed(_, field) => Err(Fault { why: Refusal::Malformed, field }),
     }
 }

@@ -1,6 +1,6 @@
 -- A file read in pieces: what stands after a batch of lines of a piece, that a piece after another is
 -- one piece, and that the page of all of them is the report of the file. Assumes nothing.
-use Rattle.std.proofs.Common.{None, Option, Some}
+use Rattle.std.proofs.Common.{None, Option, Some, Err, Ok}
 use mathlib.Core.Path.{◌≡◌, refl, sym, ap, subst, ◌∙◌}
 use mathlib.Core.Bool.{true}
 use mathlib.Core.List.{List, [], ◌∷◌, ◌++◌, append-nil, append_assoc}
@@ -13,8 +13,6 @@ use Rattle.table.specs.declared.Table.{Table}
 use Rattle.table.specs.Rules.{table_keeps}
 use Rattle.table.specs.Inner.{Sized}
 use Rattle.table.proofs.Rules.{table_rules}
-use Rattle.text.specs.declared.Reading.{Reading}
-use Rattle.text.specs.declared.Reading.TheVariants.{Taken, Refused, Equal}
 use Rattle.text.specs.Read.{read, shown}
 use Rattle.text.proofs.RoundTrip.{read_keeps, read_sized}
 use Rattle.events.specs.Boxes.{after_lines_in}
@@ -51,6 +49,8 @@ use Rattle.report.specs.Inner.Count.{SomeTicks, CountedAfter}
 use Rattle.report.specs.Inner.Count.{TicksHanded}
 use Rattle.report.specs.Inner.Page.{page_in}
 use Rattle.report.specs.Pieces.{Stand, start_with, After, AfterSome, Reads, ReadsSome, ReadsAll, joined, PageOf}
+use Rattle.text.specs.declared.ReadError.TheVariants.{Equal, Refused}
+use Rattle.text.specs.TableText.{Reading}
 
 -- the taken ticks among more lines come after those before them
 ticks_join : (r : Run) (ks ls : List (Option Event)) →
@@ -375,7 +375,7 @@ reads_all [] s z e = subst (Reads [] s) e (reads_none s)
 reads_all (p ∷ ps) s z (m, (f, g)) = reads_then p (joined ps) f (reads_all ps m z g)
 
 pub pieces_report : (table : List ℕ) (ps : List (List ℕ)) (z : Stand) (text : List ℕ) →
-    (shown (read table)).answer ≡ Taken → ReadsAll ps (start_with (shown (read table)).table) z → PageOf z text →
+    (shown (read table)).answer ≡ Ok tt → ReadsAll ps (start_with (shown (read table)).table) z → PageOf z text →
     text ≡ report table (joined ps)
 unfolding report morning_lines
 pieces_report table ps z text e r p =
@@ -384,9 +384,9 @@ pieces_report table ps z text e r p =
     rw e (p t (joined ps) (reads_all ps (start_with t) z r t [] a))
 
 -- a table that is refused prints its one line
-pub refused_report : (table events : List ℕ) (a : Reading) → (shown (read table)).answer ≡ a → (a ≡ Taken → ⊥) →
+pub refused_report : (table events : List ℕ) (a : Reading) → (shown (read table)).answer ≡ a → (a ≡ Ok tt → ⊥) →
     report table events ≡ closed (printed (refused_fields a) ∷ [])
 unfolding report morning_lines
-refused_report table events Taken e n = absurd (n refl)
-refused_report table events (Refused why line field) e n = rw e
-refused_report table events (Equal first second) e n = rw e
+refused_report table events (Ok tt) e n = absurd (n refl)
+refused_report table events (Err (Refused why line field)) e n = rw e
+refused_report table events (Err (Equal first second)) e n = rw e

@@ -15,14 +15,14 @@ ghost use Rattle.report.specs.Pieces.{standing, AfterSome, Reads, ReadsSome, pie
 use count::{SERVER_COUNTS, TASK_COUNTS};
 use events::{LINE_VALUES, TOLD_VALUES};
 use files::How;
-use files::given::{Case, say_refused};
+use files::given::say_refused;
 use lines::Held;
 use page::ROOM;
 use run::{FOUND_VALUES, Run};
 use std::io::Read;
 use std::process::ExitCode;
 use std::rt::Runtime;
-use table::MODES;
+use table::{MODES, Table};
 
 // The event file is read in pieces of so many bytes.
 const PIECE: usize = 16384;
@@ -187,16 +187,13 @@ fn is_answered<R: Runtime>(rt: &R) -> bool {
         let _ = eprintln!(rt; "report: standard input is given twice");
         return false;
     }
-    let given = files::given::take_table(rt, &mut table);
-    let t = given.table;
-    let case = given.case;
-    let Case::Read(answer) = case else {
+    let Some(read) = files::given::take_table(rt, &mut table) else {
         return false;
     };
-    let said = say_refused(rt, answer);
-    if said.refused {
-        return said.written;
-    }
+    let t: Table = match say_refused(rt, read) {
+        Ok(table) => table,
+        Err(written) => return written,
+    };
     let started = scheduler::start(t);
     let run = started.run;
     let held = cutter::no_line();

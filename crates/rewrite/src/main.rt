@@ -5,7 +5,7 @@
 ghost use Rattle.std.specs.Prelude.{◌≡◌, ◌≤◌, length, take};
 ghost use Rattle.rewrite.specs.Rewritten.{rewritten};
 
-use files::given::{Case, say_refused};
+use files::given::say_refused;
 use std::process::ExitCode;
 use std::rt::Runtime;
 use table::Table;
@@ -38,16 +38,13 @@ fn is_answered<R: Runtime>(rt: &R) -> bool {
     let Some(mut source) = files::open_argument(rt, 1) else {
         return false;
     };
-    let given = files::given::take_table(rt, &mut source);
-    let t = given.table;
-    let case = given.case;
-    let Case::Read(answer) = case else {
+    let Some(read) = files::given::take_table(rt, &mut source) else {
         return false;
     };
-    let said = say_refused(rt, answer);
-    if said.refused {
-        return said.written;
-    }
+    let t: Table = match say_refused(rt, read) {
+        Ok(table) => table,
+        Err(written) => return written,
+    };
     let mut room = [0u8; LONGEST_TEXT];
     let n = text_of(t, &mut room);
     files::write_first(rt, &room, n)

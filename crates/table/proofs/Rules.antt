@@ -1,5 +1,6 @@
 -- What a table that keeps the rules says of its counts, of each row in use and of each two rows.
 -- Each is one test of the rules, at its place in the list. Assumes nothing.
+use Rattle.std.proofs.Common.{Ok, Err}
 use mathlib.Core.Path.{◌≡◌, refl, ap, ◌∙◌}
 use mathlib.Core.Bool.{Bool, true, false, not, ◌&&◌, ◌||◌}
 use mathlib.Core.List.{List}
@@ -18,9 +19,7 @@ use Rattle.laws.proofs.Choice.{within_low, within_high, le_or_lt}
 use Rattle.table.specs.declared.ByMode.{ByMode}
 use Rattle.table.specs.declared.Refusal.{Refusal}
 use Rattle.table.specs.declared.Refusal.TheVariants.{AbsentRow, OtherPartition, NotTimed, OtherServer, Falling}
-use Rattle.table.specs.declared.Standing.{Standing}
-use Rattle.table.specs.declared.Standing.TheVariants.{Kept, Broken}
-use Rattle.table.specs.Refusals.{is_kept}
+use Rattle.table.specs.Refusals.{is_kept, breaks, Standing}
 use Rattle.table.specs.declared.Mode.{Mode}
 use Rattle.table.specs.declared.Mode.TheVariants.{N, D1, D2}
 use Rattle.table.specs.declared.Server.{Server}
@@ -110,13 +109,13 @@ unfolding task_keeps
 task_priority_lem k e = every_at (task_keeps k) e 0
 
 -- 41 to 45, the first that applies: what breaks nothing passes each test
-unless_kept : (b : Bool) (why : Refusal) (field : ℕ) (r : Standing) → is_kept (unless b say Broken why field else r) ≡ true → (b ≡ true) × (is_kept r ≡ true)
+unless_kept : (b : Bool) (why : Refusal) (field : ℕ) (r : Standing) → is_kept (unless b say breaks why field else r) ≡ true → (b ≡ true) × (is_kept r ≡ true)
 unless_kept true why field r e = (refl, e)
 unless_kept false why field r e = absurd (clash false e refl)
 
-kept_is : (s : Standing) → is_kept s ≡ true → s ≡ Kept
-kept_is Kept e = refl
-kept_is (Broken why field) e = absurd (clash false e refl)
+kept_is : (s : Standing) → is_kept s ≡ true → s ≡ Ok tt
+kept_is (Ok tt) e = refl
+kept_is (Err f) e = absurd (clash false e refl)
 
 pub record Faultless (ss : List Server) (home degraded : ℕ) (limit : ByMode Ticks) : Type 0 where
   pub home_there : row_there ss home ≡ true
@@ -149,20 +148,20 @@ module _ (ss : List Server) (home degraded : ℕ) (limit : ByMode Ticks) where
       }
 
 -- the rows that a task names are there
-pub rows_there : (ss : List Server) (home degraded : ℕ) (limit : ByMode Ticks) → task_fault ss home degraded limit ≡ Kept →
+pub rows_there : (ss : List Server) (home degraded : ℕ) (limit : ByMode Ticks) → task_fault ss home degraded limit ≡ Ok tt →
     (home < length ss) × (degraded < length ss)
 rows_there ss home degraded limit e =
     let f = faultless ss home degraded limit (ap is_kept e) in
     (ltb-true home (length ss) f.home_there, ltb-true degraded (length ss) f.degraded_there)
 
 -- a task's row keeps the rules exactly if its own numbers do and it has no fault
-pub stands : (ss : List Server) (k : Task) → every (task_keeps k) ≡ true → task_fault ss k.home k.degraded k.limit ≡ Kept →
+pub stands : (ss : List Server) (k : Task) → every (task_keeps k) ≡ true → task_fault ss k.home k.degraded k.limit ≡ Ok tt →
     task_stands ss k ≡ true
 unfolding task_stands
 stands ss k e f = rw (e, f)
 
 pub stands_keeps : (ss : List Server) (k : Task) → task_stands ss k ≡ true →
-    (every (task_keeps k) ≡ true) × (task_fault ss k.home k.degraded k.limit ≡ Kept)
+    (every (task_keeps k) ≡ true) × (task_fault ss k.home k.degraded k.limit ≡ Ok tt)
 unfolding task_stands
 stands_keeps ss k e =
     let x = every (task_keeps k) in

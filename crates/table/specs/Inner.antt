@@ -1,7 +1,7 @@
 -- Only contracts of inner functions, of `row_in` and `rows_fault`, which crate reader calls, and
 -- proofs cite this file; a buyer need not read it. It says what the code asks of some rows of a
 -- table, one function of it each. `specs/Rules.antt` says the rules.
-use Rattle.std.specs.Prelude.{◌≡◌, Bool, List, ℕ, leb, ltb, eqb, length, get_or, take, if◌then◌else◌}
+use Rattle.std.specs.Prelude.{◌≡◌, Bool, List, ℕ, leb, ltb, eqb, length, get_or, take, if◌then◌else◌, Ok}
 use Rattle.laws.specs.Choice.{unless◌say◌else◌, every}
 use Rattle.laws.specs.Rows.{all_below}
 use Rattle.table.specs.declared.ByMode.{ByMode}
@@ -9,11 +9,10 @@ use Rattle.table.specs.declared.Server.{Server}
 use Rattle.table.specs.declared.Task.{Task}
 use Rattle.table.specs.declared.Table.{Table}
 use Rattle.table.specs.declared.Refusal.TheVariants.{AbsentRow, OtherPartition, NotTimed, OtherServer, Falling}
-use Rattle.table.specs.declared.Standing.{Standing}
-use Rattle.table.specs.declared.Standing.TheVariants.{Kept, Broken}
 use Rattle.table.specs.Rows.{no_server, no_task, is_timed}
 use Rattle.table.specs.Rules.{server_keeps, stays_home, task_stands}
 use Rattle.units.specs.declared.Ticks.{Ticks}
+use Rattle.table.specs.Refusals.{breaks, Standing}
 
 -- the place of a server row in the array, and 0 where the array has no such place
 abbrev pub place_in : ℕ → ℕ
@@ -23,14 +22,14 @@ place_in row = if ltb row 32 then row else 0
 -- read for them and count how many rows there are
 abbrev pub rows_fault : ℕ → Server → Server → ℕ → ℕ → ByMode Ticks → Standing
 rows_fault count h d home degraded limit =
-    unless ltb home count say Broken AbsentRow 1
-    else unless ltb degraded count say Broken AbsentRow 2
-    else unless eqb d.partition h.partition say Broken OtherPartition 2
-    else unless is_timed d.kind say Broken NotTimed 2
-    else unless stays_home h.kind home degraded say Broken OtherServer 2
-    else unless leb limit.n.0 limit.d1.0 say Broken Falling 6
-    else unless leb limit.d1.0 limit.d2.0 say Broken Falling 7
-    else Kept
+    unless ltb home count say breaks AbsentRow 1
+    else unless ltb degraded count say breaks AbsentRow 2
+    else unless eqb d.partition h.partition say breaks OtherPartition 2
+    else unless is_timed d.kind say breaks NotTimed 2
+    else unless stays_home h.kind home degraded say breaks OtherServer 2
+    else unless leb limit.n.0 limit.d1.0 say breaks Falling 6
+    else unless leb limit.d1.0 limit.d2.0 say breaks Falling 7
+    else (Ok tt)
 
 -- the first n servers keep the rules of a row
 abbrev pub servers_keep : List Server → ℕ → Bool

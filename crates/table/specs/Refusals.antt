@@ -1,10 +1,9 @@
 -- 01, Numbers for no: the paper's number of each reason. 02, No. 2: "4 goes; 41 to 45 stand in its
 -- place in the order given here".
-use Rattle.std.specs.Prelude.{Bool, true, false, ℕ}
+use Rattle.std.specs.Prelude.{Bool, true, false, ℕ, Ok, Err, Result}
 use Rattle.table.specs.declared.Refusal.{Refusal}
 use Rattle.table.specs.declared.Refusal.TheVariants.{Malformed, OutOfBounds, NotWhole, AbsentRow, OtherPartition, NotTimed, OtherServer, Falling, EqualPriorities, NoTask, LowInD2, QueueFull, NoJobRan, CountSpent, NoServer, RoomShort, Unsound}
-use Rattle.table.specs.declared.Standing.{Standing}
-use Rattle.table.specs.declared.Standing.TheVariants.{Kept, Broken}
+use Rattle.table.specs.declared.Fault.{Fault}
 
 abbrev pub number_of : Refusal → ℕ
 -- malformed, missing or misplaced line, or unknown word
@@ -42,16 +41,23 @@ number_of RoomShort = 12
 -- a table or state handed in breaks the rules of this page
 number_of Unsound = 13
 
+-- Whether a line or a row keeps the rules where it stands, or which it breaks, and at which field.
+abbrev pub Standing : Type 0
+Standing = Result (Unit {0}) Fault
+
+abbrev pub breaks : Refusal → ℕ → Standing
+breaks why field = Err (record { why = why; field = field })
+
 -- The paper's number of a standing, 0 where the rules are kept, and the field that is told with it:
 -- "counted from 1 after the leading word, or 0 for the line itself".
 abbrev pub standing_number : Standing → ℕ
-standing_number Kept = 0
-standing_number (Broken why field) = number_of why
+standing_number (Ok tt) = 0
+standing_number (Err f) = number_of f.why
 
 abbrev pub standing_field : Standing → ℕ
-standing_field Kept = 0
-standing_field (Broken why field) = field
+standing_field (Ok tt) = 0
+standing_field (Err f) = f.field
 
 abbrev pub is_kept : Standing → Bool
-is_kept Kept = true
-is_kept (Broken why field) = false
+is_kept (Ok tt) = true
+is_kept (Err f) = false

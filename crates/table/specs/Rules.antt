@@ -1,5 +1,5 @@
 -- 01, Tables: the rules that a table keeps, in ticks.
-use Rattle.std.specs.Prelude.{Bool, not, ◌&&◌, ◌||◌, List, [], ◌∷◌, ℕ, leb, ltb, eqb, length, get_or}
+use Rattle.std.specs.Prelude.{Bool, not, ◌&&◌, ◌||◌, List, [], ◌∷◌, ℕ, leb, ltb, eqb, length, get_or, Ok}
 use Rattle.laws.specs.Choice.{unless◌say◌else◌, every, within}
 use Rattle.laws.specs.Rows.{all_below}
 use Rattle.table.specs.declared.Kind.{Kind}
@@ -8,9 +8,7 @@ use Rattle.table.specs.declared.Server.{Server}
 use Rattle.table.specs.declared.Task.{Task}
 use Rattle.table.specs.declared.Table.{Table}
 use Rattle.table.specs.declared.Refusal.TheVariants.{AbsentRow, OtherPartition, NotTimed, OtherServer, Falling}
-use Rattle.table.specs.declared.Standing.{Standing}
-use Rattle.table.specs.declared.Standing.TheVariants.{Kept, Broken}
-use Rattle.table.specs.Refusals.{is_kept}
+use Rattle.table.specs.Refusals.{is_kept, breaks, Standing}
 use Rattle.table.specs.Rows.{Rows, rows_of, no_server, no_task, is_timed}
 use Rattle.units.specs.declared.Ticks.{Ticks}
 
@@ -72,14 +70,14 @@ timed_at_home ss home degraded = stays_home (get_or ss home no_server).kind home
 -- is field 1, the degraded server 2, the limits "for N, D1, D2", "not falling", are 5, 6 and 7.
 unfoldable pub task_fault : List Server → ℕ → ℕ → ByMode Ticks → Standing
 task_fault ss home degraded limit =
-    unless row_there ss home say Broken AbsentRow 1
-    else unless row_there ss degraded say Broken AbsentRow 2
-    else unless same_partition ss home degraded say Broken OtherPartition 2
-    else unless degraded_timed ss degraded say Broken NotTimed 2
-    else unless timed_at_home ss home degraded say Broken OtherServer 2
-    else unless leb limit.n.0 limit.d1.0 say Broken Falling 6
-    else unless leb limit.d1.0 limit.d2.0 say Broken Falling 7
-    else Kept
+    unless row_there ss home say breaks AbsentRow 1
+    else unless row_there ss degraded say breaks AbsentRow 2
+    else unless same_partition ss home degraded say breaks OtherPartition 2
+    else unless degraded_timed ss degraded say breaks NotTimed 2
+    else unless timed_at_home ss home degraded say breaks OtherServer 2
+    else unless leb limit.n.0 limit.d1.0 say breaks Falling 6
+    else unless leb limit.d1.0 limit.d2.0 say breaks Falling 7
+    else (Ok tt)
 
 -- a task's row, beside the servers
 unfoldable pub task_stands : List Server → Task → Bool

@@ -125,12 +125,12 @@ pub fn number_of(why: Refusal) -> u64
     }
 }
 
-// Whether a line or a row keeps the rules where it stands, or which it breaks, and at which field:
-// they count from 1 after the leading word, and 0 is the line itself.
+// What a line or a row breaks of the rules where it stands, and at which field: they count from 1
+// after the leading word, and 0 is the line itself.
 #[derive(Clone, Copy)]
-pub enum Standing {
-    Kept,
-    Broken(Refusal, usize),
+pub struct Fault {
+    pub why: Refusal,
+    pub field: usize,
 }
 
 pub const THE_LINE: usize = 0;
@@ -144,13 +144,10 @@ const LIMIT_D1: usize = 6;
 
 const LIMIT_D2: usize = 7;
 
-fn is_kept(s: Standing) -> bool
+fn is_kept(s: Result<(), Fault>) -> bool
     ensures { result ≡ is_kept s }
 {
-    match s {
-        Standing::Kept => true,
-        Standing::Broken(_, _) => false,
-    }
+    s.is_ok()
 }
 
 // The table that stands beside a refusal, and that reading begins with: no tick and no rows.
@@ -235,7 +232,7 @@ pub fn equal_tasks(ks: [Task; TASKS], count: usize) -> Option<(usize, usize)>
 }
 
 // The one of a mode: a match, since rows hold the three by name.
-pub fn in_mode<T: Copy>(x: ByMode<T>, m: Mode) -> T
+pub fn in_mode(x: ByMode<Ticks>, m: Mode) -> Ticks
     ensures { result ≡ in_mode x m }
 {
     match m {
@@ -369,7 +366,7 @@ pub fn rows_fault(
     home: u64,
     degraded: u64,
     limit: ByMode<Ticks>,
-) -> Standing
+) -> Result<(), Fault>
     ensures { result ≡ rows_fault count h d home degraded limit }
 {
     let base = h.kind;
@@ -377,27 +374,27 @@ pub fn rows_fault(
     let timed = is_timed(kind);
     let stays = stays_home(base, home, degraded);
     if count as u64 <= home {
-        return Standing::Broken(Refusal::AbsentRow, HOME);
+        return Err(Fault { why: Refusal::AbsentRow, field: HOME });
     }
     if count as u64 <= degraded {
-        return Standing::Broken(Refusal::AbsentRow, DEGRADED);
+        return Err(Fault { why: Refusal::AbsentRow, field: DEGRADED });
     }
     if d.partition != h.partition {
-        return Standing::Broken(Refusal::OtherPartition, DEGRADED);
+        return Err(Fault { why: Refusal::OtherPartition, field: DEGRADED });
     }
     if !timed {
-        return Standing::Broken(Refusal::NotTimed, DEGRADED);
+        return Err(Fault { why: Refusal::NotTimed, field: DEGRADED });
     }
     if !stays {
-        return Standing::Broken(Refusal::OtherServer, DEGRADED);
+        return Err(Fault { why: Refusal::OtherServer, field: DEGRADED });
     }
     if limit.d1.0 < limit.n.0 {
-        return Standing::Broken(Refusal::Falling, LIMIT_D1);
+        return Err(Fault { why: Refusal::Falling, field: LIMIT_D1 });
     }
     if limit.d2.0 < limit.d1.0 {
-        return Standing::Broken(Refusal::Falling, LIMIT_D2);
+        return Err(Fault { why: Refusal::Falling, field: LIMIT_D2 });
     }
-    Standing::Kept
+    Ok(())
 }
 
 // The same, the rows being among the first count.
@@ -407,7 +404,7 @@ pub fn task_fault(
     home: u64,
     degraded: u64,
     limit: ByMode<Ticks>,
-) -> Standing
+) -> Result<(), Fault>
     ensures { result ≡ task_fault (take count ss) home degraded limit }
 {
     let n = in_use(count, SERVERS);

@@ -1,7 +1,7 @@
 -- Which texts the reader takes: exactly those whose lines, each closed, all keep the rules where
 -- they stand. Rows that keep the rules are the rows of such lines, and the rows' own lines are
 -- those with the task times rounded up and no phase 0. Assumes nothing.
-use Rattle.std.proofs.Common.{None}
+use Rattle.std.proofs.Common.{None, Ok}
 use mathlib.Core.Path.{◌≡◌, refl, sym, ap, ◌∙◌, subst}
 use mathlib.Core.Bool.{true, not}
 use mathlib.Core.List.{List, [], ◌∷◌, ◌++◌, map, append_assoc, append-nil}
@@ -21,7 +21,6 @@ use Rattle.table.specs.declared.Task.{Task}
 use Rattle.table.specs.Rows.{Rows, no_rows, no_server, no_task}
 use Rattle.table.specs.Rules.{tick_keeps, priority_keeps, limit_keeps, server_keeps, task_fault, task_stands, differ, keeps}
 use Rattle.table.proofs.Rules.{rows_there, stands_keeps}
-use Rattle.table.specs.declared.Standing.TheVariants.{Kept, Broken}
 use Rattle.table.specs.declared.Refusal.TheVariants.{Malformed as MalformedWhy, OutOfBounds, NotWhole}
 use Rattle.table.specs.Pairs.{equal_servers, equal_tasks}
 use Rattle.table.proofs.Pairs.{differ_pair, pair_differ}
@@ -34,11 +33,11 @@ use Rattle.text.proofs.Lines.{Writable}
 use Rattle.text.proofs.Ticks.{said_left_out, server_there, task_there, rounded}
 use Rattle.text.proofs.Bounds.{within_tick}
 use Rattle.text.proofs.Standing.{not_nil, standing_keeps, keeps_standing, server_bounded, server_whole_lem, task_bounded, Good, stepped, stands_first, tick_line, tick_writable}
-use Rattle.text.specs.declared.Reading.TheVariants.{Taken}
 use Rattle.text.specs.Line.{read_line}
 use Rattle.text.specs.TableText.{rows_grown}
 use Rattle.text.specs.Read.{ReadRows, taken, pair_said, compared, ended, table_text, read}
 use Rattle.text.proofs.TableText.{taken_not, unless_not, pair_taken, kept_ends, not_refused_kept}
+use Rattle.table.specs.Refusals.{breaks}
 
 abbrev pub AllWritable : List Line → Type 0
 AllWritable [] = Unit {0}
@@ -53,7 +52,7 @@ rounded_standing n a (OfTask k) h =
     let t = a.tick.0 in
     ap
     (λ (x : Task).
-    unless not (is_nil a.servers) say Broken MalformedWhy 0
+    unless not (is_nil a.servers) say breaks MalformedWhy 0
     else tell OutOfBounds at first_failed
     (ltb (length a.tasks) 64
     ∷ anything
@@ -200,7 +199,7 @@ with t ss ks = record { tick = t; servers = ss; tasks = ks }
 
 server_taken : (n : ℕ) (t : Micros) (ss : List Server) (s : Server) → 1 < n → length ss < 32 →
     every (server_keeps s) ≡ true →
-    standing n (with t ss []) (OfServer (server_back t.0 s)) ≡ Kept
+    standing n (with t ss []) (OfServer (server_back t.0 s)) ≡ Ok tt
 unfolding placed bounds wholes fault
 server_taken n t ss s h l e =
     keeps_standing n (with t ss []) (OfServer (server_back t.0 s))
@@ -214,7 +213,7 @@ server_taken n t ss s h l e =
 
 task_taken : (n : ℕ) (t : Micros) (ss : List Server) (ks : List Task) (k : Task) → 0 < t.0 → 0 < length ss →
     length ks < 64 →
-    task_stands ss k ≡ true → standing n (with t ss ks) (OfTask (task_back t.0 k)) ≡ Kept
+    task_stands ss k ≡ true → standing n (with t ss ks) (OfTask (task_back t.0 k)) ≡ Ok tt
 unfolding placed bounds wholes fault every
 task_taken n t ss ks k p h l e =
     let y = stands_keeps ss k e in
@@ -276,7 +275,7 @@ tasks_grown t ss ks (k ∷ more) p =
     ap (λ x. grown_by (with t ss (ks ++ (x ∷ []))) (task_lines t.0 more)) (task_there t.0 p k) ∙
     tasks_grown t ss (ks ++ (k ∷ [])) more p ∙ rw (append_assoc ks (k ∷ []) more)
 
-tick_taken_lem : (t : Micros) → 1 ≤ t.0 → t.0 ≤ 10000 → standing 1 no_rows (OfTick t) ≡ Kept
+tick_taken_lem : (t : Micros) → 1 ≤ t.0 → t.0 ≤ 10000 → standing 1 no_rows (OfTick t) ≡ Ok tt
 unfolding placed wholes fault every
 tick_taken_lem t l h =
     keeps_standing 1 no_rows (OfTick t)
@@ -310,7 +309,7 @@ record Ended (a : Rows) : Type 0 where
   servers : equal_servers a.servers ≡ None
   tasks : equal_tasks a.tasks ≡ None
 
-ended_taken : (n : ℕ) (a : Rows) → (ended n a).answer ≡ Taken → Ended a
+ended_taken : (n : ℕ) (a : Rows) → (ended n a).answer ≡ Ok tt → Ended a
 unfolding ended compared
 ended_taken n a e =
     let p = unless_not no_rows (not (is_nil a.tasks)) MalformedWhy n (compared a) (taken_not e) in
@@ -338,7 +337,7 @@ allowed_taken text a w =
       tasks = differ_pair (length a.tasks) (λ k. (get_or a.tasks k no_task).priority) w.tasks_differ;
     }))
 
-pub taken_allowed : (text : List ℕ) → (read text).answer ≡ Taken → Allowed text (read text).rows
+pub taken_allowed : (text : List ℕ) → (read text).answer ≡ Ok tt → Allowed text (read text).rows
 unfolding read
 taken_allowed text e =
     let r = not_refused_kept table_text text (taken_not e) in

@@ -14,7 +14,6 @@ use Rattle.laws.specs.Rows.{all_below}
 use Rattle.decimal.specs.Number.{are_digits, number_form, is_number, worth_from, digits_in, digits}
 use Rattle.decimal.specs.Lines.{split, join, closed, same}
 use Rattle.table.specs.declared.Refusal.TheVariants.{OutOfBounds}
-use Rattle.table.specs.declared.Standing.TheVariants.{Broken}
 use Rattle.table.specs.Rows.{table_of, no_server}
 use Rattle.table.specs.Rules.{table_keeps, keeps, server_keeps, task_keeps, task_fault, task_stands, differ}
 use Rattle.table.specs.Pairs.{later_equal, first_pair}
@@ -23,6 +22,7 @@ use Rattle.text.specs.Line.{tick_form, server_form, task_form, field_tests, form
 use Rattle.text.specs.Standing.{placed, server_bounds, task_bounds, bounds, server_whole, wholes, fault, standing, grown}
 use Rattle.text.specs.Read.{reading_number, reading_values, compared, ended, read}
 use Rattle.text.specs.Write.{server_lines, task_lines, lines_of, write, wrote, all_lines, times_whole, no_phase_zero}
+use Rattle.table.specs.Refusals.{breaks}
 
 unfoldable computed : Unit {0}
 unfolding
@@ -87,7 +87,7 @@ leftmost_not_whole = refl
 pub row_before_a_number :
     standing 34 (record { tick = record { 0 = 1000 }; servers = replicate 32 no_server; tasks = [] })
     (read_line (bytes "server\t16\ttimed\t1\t2000\t0\t0\t0"))
-    ≡ Broken OutOfBounds 0
+    ≡ breaks OutOfBounds 0
 unfolding computed
 row_before_a_number = refl
 

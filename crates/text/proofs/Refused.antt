@@ -1,5 +1,6 @@
 -- 01, Numbers for no: "Each is given exactly in its case". Every reason has a number. Of a table that
 -- is written: "Others: 13 first", and the room is as it was, but for the text. Assumes nothing.
+use Rattle.std.proofs.Common.{Err, Ok}
 use mathlib.Core.Path.{◌≡◌, refl, ap}
 use mathlib.Core.Bool.{true, false}
 use mathlib.Core.List.{List, [], ◌∷◌}
@@ -15,16 +16,14 @@ use Rattle.table.specs.declared.Table.{Table}
 use Rattle.table.specs.declared.Refusal.{Refusal}
 use Rattle.table.specs.declared.Refusal.TheVariants.{Malformed, OutOfBounds, NotWhole, AbsentRow, OtherPartition, NotTimed, OtherServer, Falling}
 use Rattle.table.specs.declared.Refusal.TheVariants.{EqualPriorities, NoTask, LowInD2, QueueFull, NoJobRan, CountSpent, NoServer, RoomShort, Unsound}
-use Rattle.table.specs.Refusals.{number_of, standing_number}
+use Rattle.table.specs.Refusals.{number_of, standing_number, breaks, Standing}
 use Rattle.table.specs.Rows.{rows_of}
 use Rattle.table.specs.Rules.{table_keeps}
-use Rattle.text.specs.declared.Reading.{Reading}
-use Rattle.text.specs.declared.Reading.TheVariants.{Taken, Refused, Equal}
-use Rattle.table.specs.declared.Standing.{Standing}
-use Rattle.table.specs.declared.Standing.TheVariants.{Kept, Broken}
 use Rattle.text.specs.Read.{reading_number}
 use Rattle.text.specs.Write.{Wrote, write, writing_number, writing_values, unwritten, written}
 use Rattle.text.specs.Write.{wrote}
+use Rattle.text.specs.declared.ReadError.TheVariants.{Equal, Refused}
+use Rattle.text.specs.TableText.{Reading}
 
 -- every reason has a number, and 0 is none's
 number_low : (why : Refusal) → 1 ≤ number_of why
@@ -46,15 +45,15 @@ number_low NoServer = omega arith
 number_low RoomShort = omega arith
 number_low Unsound = omega arith
 
-pub reading_0 : (a : Reading) → reading_number a ≡ 0 → a ≡ Taken
-reading_0 Taken e = refl
-reading_0 (Refused why line field) e = absurd (omega (arith, number_low why))
-reading_0 (Equal first second) e = absurd (omega arith)
+pub reading_0 : (a : Reading) → reading_number a ≡ 0 → a ≡ Ok tt
+reading_0 (Ok tt) e = refl
+reading_0 (Err (Refused why line field)) e = absurd (omega (arith, number_low why))
+reading_0 (Err (Equal first second)) e = absurd (omega arith)
 
 -- number 0 exactly if the rules are kept
-pub standing_0 : (s : Standing) → (standing_number s ≡ 0) ↔ (s ≡ Kept)
-standing_0 Kept = (λ e. refl, λ e. refl)
-standing_0 (Broken why field) = (λ e. absurd (omega (arith, number_low why)), λ e. ap standing_number e)
+pub standing_0 : (s : Standing) → (standing_number s ≡ 0) ↔ (s ≡ Ok tt)
+standing_0 (Ok tt) = (λ e. refl, λ e. refl)
+standing_0 (Err f) = (λ e. absurd (omega (arith, number_low f.why)), λ e. ap standing_number e)
 
 -- the three ways of the writer
 wrote_ind : (P : Wrote → Type 0) (t : Table) (room : List ℕ) → (table_keeps t ≡ false → P (unwritten Unsound room)) →

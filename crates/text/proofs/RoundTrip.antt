@@ -3,6 +3,7 @@
 -- written". Text and lines are inverse, and so are lines and rows, but for task times that are
 -- rounded up and a phase 0 that is left out. The statements to quote stand at the end. Assumes
 -- nothing.
+use Rattle.std.proofs.Common.{Ok}
 use mathlib.Core.Path.{◌≡◌, refl, sym, ap, subst, ◌∙◌}
 use mathlib.Core.Bool.{Bool, true}
 use mathlib.Core.List.{List, [], ◌∷◌, ◌++◌, map, append_cancel_right}
@@ -22,7 +23,6 @@ use Rattle.table.specs.Inner.{Sized}
 use Rattle.table.proofs.Rules.{rows_keep as table-rows-keep}
 use Rattle.text.specs.declared.Line.{Line}
 use Rattle.text.specs.declared.Line.TheVariants.{OfTick, OfServer, OfTask, Malformed}
-use Rattle.text.specs.declared.Reading.TheVariants.{Taken}
 use Rattle.text.specs.Words.{tick_word, server_word, task_word}
 use Rattle.text.specs.Line.{no_line, read_line, write_line}
 use Rattle.text.specs.Read.{taken, read, shown}
@@ -102,7 +102,7 @@ rows_back a e =
       tasks_differ = k.tasks_differ;
     })
 
-pub rows_keep : (text : List ℕ) → (read text).answer ≡ Taken → keeps (read text).rows ≡ true
+pub rows_keep : (text : List ℕ) → (read text).answer ≡ Ok tt → keeps (read text).rows ≡ true
 rows_keep text e =
     let w = taken_allowed text e in
     let d = told (map read_line w.lines) w.kept (rw w.rows w.task) in
@@ -219,7 +219,7 @@ table_sized a h g =
 
 -- "Writing then reading gives the same table", on the rows in use.
 pub write_then_read : (t : Table) → table_keeps t ≡ true →
-    ((shown (read (write (rows_of t)))).answer ≡ Taken) × (rows_of (shown (read (write (rows_of t)))).table ≡ rows_of t)
+    ((shown (read (write (rows_of t)))).answer ≡ Ok tt) × (rows_of (shown (read (write (rows_of t)))).table ≡ rows_of t)
 unfolding shown
 write_then_read t e =
     let b = rows_back (rows_of t) (table-rows-keep t e) in
@@ -227,18 +227,18 @@ write_then_read t e =
 
 -- "Reading then writing gives the same text exactly when each task time was whole ticks." 02, No. 7:
 -- "01's rule on reading then writing also asks that no phase 0 was written".
-pub read_then_write : (text : List ℕ) → (shown (read text)).answer ≡ Taken →
+pub read_then_write : (text : List ℕ) → (shown (read text)).answer ≡ Ok tt →
     (write (rows_of (shown (read text)).table) ≡ text) ↔
     ((times_whole (shown (read text)).table.tick.0 text ≡ true) × (no_phase_zero text ≡ true))
 unfolding shown table_of
 read_then_write text e = rw (table_rows (read text).rows) (allowed_text text (read text).rows (taken_allowed text e))
 
 -- What is read keeps the rules of the page.
-pub read_keeps : (text : List ℕ) → (shown (read text)).answer ≡ Taken → table_keeps (shown (read text)).table ≡ true
+pub read_keeps : (text : List ℕ) → (shown (read text)).answer ≡ Ok tt → table_keeps (shown (read text)).table ≡ true
 unfolding shown
 read_keeps text e = rows_table (read text).rows (rows_keep text e)
 
-pub read_sized : (text : List ℕ) → (shown (read text)).answer ≡ Taken → Sized (shown (read text)).table
+pub read_sized : (text : List ℕ) → (shown (read text)).answer ≡ Ok tt → Sized (shown (read text)).table
 unfolding shown
 read_sized text e =
     let k = keeps_rows (read text).rows (rows_keep text e) in

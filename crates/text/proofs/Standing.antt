@@ -1,7 +1,7 @@
 -- Lines that keep the rules where they stand, and the rows that they make: a line is taken exactly
 -- if its row keeps the rules of a table, so rows that keep them come of lines that do, and the
 -- other way round. Nothing here knows a byte. Assumes nothing.
-use Rattle.std.proofs.Common.{None, Option, Some}
+use Rattle.std.proofs.Common.{None, Option, Some, Ok}
 use mathlib.Core.Path.{◌≡◌, refl, ap}
 use mathlib.Core.Bool.{Bool, true, false}
 use mathlib.Core.List.{List, [], ◌∷◌, ◌++◌, append_assoc, append-nil, map-append}
@@ -31,22 +31,21 @@ use Rattle.text.specs.declared.TaskLine.{TaskLine}
 use Rattle.text.specs.declared.Word.{Word}
 use Rattle.text.specs.declared.Line.{Line}
 use Rattle.text.specs.declared.Line.TheVariants.{OfTick, OfServer, OfTask, Malformed}
-use Rattle.table.specs.declared.Standing.{Standing}
-use Rattle.table.specs.declared.Standing.TheVariants.{Kept, Broken}
 use Rattle.text.specs.Standing.{is_nil, phase_said, server_of, limits_of, task_of, placed, server_bounds, task_bounds, bounds, server_whole, wholes, fault, tell◌at◌or◌, standing, grown}
 use Rattle.text.specs.Line.{word_of, malformed_at}
 use Rattle.text.specs.Write.{server_back, task_back, server_lines, task_lines, lines_of}
 use Rattle.text.proofs.Lines.{Short, ShortLast, Writable}
 use Rattle.text.proofs.Ticks.{whole_div, phase_said_lem, server_left_out, server_back_lem, rounded}
 use Rattle.text.proofs.Bounds.{tick_within, server_within, within_server, task_within}
+use Rattle.table.specs.Refusals.{breaks, Standing}
 
 -- the tests of a line in their order: kept is kept of each
-pub unless_kept : (b : Bool) (why : Refusal) (field : ℕ) (r : Standing) → (unless b say Broken why field else r) ≡ Kept →
-    (b ≡ true) × (r ≡ Kept)
+pub unless_kept : (b : Bool) (why : Refusal) (field : ℕ) (r : Standing) → (unless b say breaks why field else r) ≡ Ok tt →
+    (b ≡ true) × (r ≡ Ok tt)
 unless_kept true why field r e = (refl, e)
 unless_kept false why field r e = let c : ◌≡◌ {A = ℕ} 0 1 = cc in absurd (omega arith)
 
-pub tell_kept : (x : Option ℕ) (why : Refusal) (r : Standing) → (tell why at x or r) ≡ Kept → (x ≡ None) × (r ≡ Kept)
+pub tell_kept : (x : Option ℕ) (why : Refusal) (r : Standing) → (tell why at x or r) ≡ Ok tt → (x ≡ None) × (r ≡ Ok tt)
 tell_kept (Some field) why r e = let c : ◌≡◌ {A = ℕ} 0 1 = cc in absurd (omega arith)
 tell_kept None why r e = (refl, e)
 
@@ -55,9 +54,9 @@ pub record Keeps (n : ℕ) (a : Rows) (l : Line) : Type 0 where
   pub formed : malformed_at l ≡ None
   pub bounded : every (bounds a l) ≡ true
   pub whole : every (wholes a l) ≡ true
-  pub fits : fault a l ≡ Kept
+  pub fits : fault a l ≡ Ok tt
 
-pub standing_keeps : (n : ℕ) (a : Rows) (l : Line) → standing n a l ≡ Kept → Keeps n a l
+pub standing_keeps : (n : ℕ) (a : Rows) (l : Line) → standing n a l ≡ Ok tt → Keeps n a l
 unfolding standing
 standing_keeps n a l e =
     let p = unless_kept (placed n a (word_of l)) MalformedWhy 0 _ e in
@@ -72,7 +71,7 @@ standing_keeps n a l e =
       fits = r.1;
     }
 
-pub keeps_standing : (n : ℕ) (a : Rows) (l : Line) → Keeps n a l → standing n a l ≡ Kept
+pub keeps_standing : (n : ℕ) (a : Rows) (l : Line) → Keeps n a l → standing n a l ≡ Ok tt
 unfolding standing
 keeps_standing n a l k =
     rw (

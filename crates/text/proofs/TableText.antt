@@ -3,7 +3,7 @@
 -- stand is told; where all stand, what follows the last line feed is, and then the end. So a text
 -- is taken exactly if its lines, each closed, all keep the rules where they stand, and it ends as
 -- it should. Assumes nothing.
-use Rattle.std.proofs.Common.{None, Option, Some}
+use Rattle.std.proofs.Common.{None, Option, Some, Err, Ok}
 use mathlib.Core.Path.{◌≡◌, refl, sym, ap, subst, ◌∙◌}
 use mathlib.Core.Bool.{Bool, true, false}
 use mathlib.Core.List.{List, [], ◌∷◌, ◌++◌, map}
@@ -21,19 +21,17 @@ use Rattle.laws.proofs.Rows.{upto}
 use Rattle.decimal.specs.Lines.{line_feed, split}
 use Rattle.table.specs.declared.Refusal.{Refusal}
 use Rattle.table.specs.declared.Refusal.TheVariants.{Malformed, OutOfBounds}
-use Rattle.table.specs.declared.Standing.{Standing}
-use Rattle.table.specs.declared.Standing.TheVariants.{Kept, Broken}
-use Rattle.text.specs.declared.Reading.{Reading}
-use Rattle.text.specs.declared.Reading.TheVariants.{Taken, Refused}
 use Rattle.text.specs.Standing.{is_nil}
-use Rattle.text.specs.TableText.{ReadOf, refused_beside, pair_told, line_told, TableText, read_lines, read_text, LinesKeep, rows_grown, standing_of}
+use Rattle.text.specs.TableText.{Read, handed, handed_by, ReadOf, refused_beside, pair_told, line_told, TableText, read_lines, read_text, LinesKeep, rows_grown, standing_of, Reading}
 use Rattle.text.proofs.Standing.{is_nil_lem}
+use Rattle.table.specs.Refusals.{breaks, Standing}
+use Rattle.text.specs.declared.ReadError.TheVariants.{Refused}
 
 -- the answer is no refusal: the text is taken, or two of its lines have equal priorities
 abbrev pub NotRefused : Reading → Type 0
-NotRefused r = (why : Refusal) (line field : ℕ) → r ≡ Refused why line field → ⊥
+NotRefused r = (why : Refusal) (line field : ℕ) → r ≡ Err (Refused why line field) → ⊥
 
-pub taken_not : {r : Reading} → r ≡ Taken → NotRefused r
+pub taken_not : {r : Reading} → r ≡ Ok tt → NotRefused r
 taken_not e why line field f = let z : ◌≡◌ {A = ℕ} 0 1 = cc in omega arith
 
 pub unless_not : {A : Type 0} (none : A) (b : Bool) (why : Refusal) (n : ℕ) (r : ReadOf A) →
@@ -43,14 +41,14 @@ unless_not none true why n r e = (refl, refl)
 unless_not none false why n r e = absurd (e why n 0 refl)
 
 pub pair_taken : {A : Type 0} (none : A) (top : ℕ) (p : Option (ℕ × ℕ)) (r : ReadOf A) →
-    (pair_told none top p r).answer ≡ Taken → (p ≡ None) × (r.answer ≡ Taken)
+    (pair_told none top p r).answer ≡ Ok tt → (p ≡ None) × (r.answer ≡ Ok tt)
 pair_taken none top (Some (i, j)) r e = let z : ◌≡◌ {A = ℕ} 0 1 = cc in absurd (omega arith)
 pair_taken none top None r e = (refl, e)
 
 line_not : {A : Type 0} (none : A) (n : ℕ) (j : Standing) (r : ReadOf A) →
-    NotRefused (line_told none n j r).answer → (j ≡ Kept) × NotRefused r.answer
-line_not none n Kept r e = (refl, e)
-line_not none n (Broken why field) r e = absurd (e why n field refl)
+    NotRefused (line_told none n j r).answer → (j ≡ Ok tt) × NotRefused r.answer
+line_not none n (Ok tt) r e = (refl, e)
+line_not none n (Err f) r e = absurd (e f.why n f.field refl)
 
 module _ {A L : Type 0} (k : TableText A L) where
   -- one line
@@ -78,7 +76,7 @@ module _ {A L : Type 0} (k : TableText A L) where
 
   -- what is answered from the first part on is what is answered below the parts that stand
   past_kept : (n : ℕ) (a : A) (ps : List (List ℕ)) (i : ℕ) → i < length ps →
-      ((j : ℕ) → j < i → standing_at n a ps j ≡ Kept) →
+      ((j : ℕ) → j < i → standing_at n a ps j ≡ Ok tt) →
       read_lines k n a ps ≡ read_lines k (n + i) (rows_grown k a (map k.says (take i ps))) (drop i ps)
   unfolding rows_grown
   past_kept n a ps zero h s = rw (add-zero n)
@@ -91,8 +89,8 @@ module _ {A L : Type 0} (k : TableText A L) where
 
   -- the first part but the last that does not stand is told
   pub first_told : (n : ℕ) (a : A) (ps : List (List ℕ)) (i : ℕ) (why : Refusal) (field : ℕ) →
-      suc i < length ps → ((j : ℕ) → j < i → standing_at n a ps j ≡ Kept) →
-      standing_at n a ps i ≡ Broken why field → read_lines k n a ps ≡ refused_beside k.none why (n + i) field
+      suc i < length ps → ((j : ℕ) → j < i → standing_at n a ps j ≡ Ok tt) →
+      standing_at n a ps i ≡ breaks why field → read_lines k n a ps ≡ refused_beside k.none why (n + i) field
   first_told n a ps i why field h s b =
       let rows = rows_grown k a (map k.says (take i ps)) in
       let more : 0 < length (drop (suc i) ps) = omega (arith, length-drop (suc i) ps) in
@@ -101,7 +99,7 @@ module _ {A L : Type 0} (k : TableText A L) where
 
   -- all parts but the last, which is part c, stand
   pub all_told_lem : (n : ℕ) (a : A) (ps : List (List ℕ)) (c : ℕ) → length ps ≡ suc c →
-      ((j : ℕ) → j < c → standing_at n a ps j ≡ Kept) →
+      ((j : ℕ) → j < c → standing_at n a ps j ≡ Ok tt) →
       read_lines k n a ps ≡
       (unless is_nil (get_or ps c []) say refused_beside k.none Malformed (n + c) 0
       else k.ends (n + c) (rows_grown k a (map k.says (take c ps))))
@@ -111,7 +109,7 @@ module _ {A L : Type 0} (k : TableText A L) where
       past_kept n a ps c (omega arith) s ∙ rw (drop-cons ps c [] (omega arith), d)
 
   pub all_kept : (n : ℕ) (a : A) (ps : List (List ℕ)) (c : ℕ) → length ps ≡ suc c →
-      ((j : ℕ) → j < c → standing_at n a ps j ≡ Kept) → LinesKeep k n a (map k.says (take c ps))
+      ((j : ℕ) → j < c → standing_at n a ps j ≡ Ok tt) → LinesKeep k n a (map k.says (take c ps))
   all_kept n a [] c e s = absurd (omega arith)
   all_kept n a (l ∷ ps) zero e s = tt
   all_kept n a (l ∷ ps) (suc c) e s = (
@@ -126,17 +124,17 @@ module _ {A L : Type 0} (k : TableText A L) where
     pub why : Refusal
     pub field : ℕ
     pub below : place < c
-    pub kept : (j : ℕ) → j < place → standing_at n a ps j ≡ Kept
-    pub broken : standing_at n a ps place ≡ Broken why field
+    pub kept : (j : ℕ) → j < place → standing_at n a ps j ≡ Ok tt
+    pub broken : standing_at n a ps place ≡ breaks why field
 
   pub first_or_all : (n : ℕ) (a : A) (ps : List (List ℕ)) (c : ℕ) →
-      FirstBroken n a ps c ⊎ ((j : ℕ) → j < c → standing_at n a ps j ≡ Kept)
+      FirstBroken n a ps c ⊎ ((j : ℕ) → j < c → standing_at n a ps j ≡ Ok tt)
   first_or_all n a ps zero = inr (λ j l. absurd (omega arith))
   first_or_all n a ps (suc c) = go (first_or_all n a ps c) (standing_at n a ps c) refl
     where
-      go : FirstBroken n a ps c ⊎ ((j : ℕ) → j < c → standing_at n a ps j ≡ Kept) → (s : Standing) →
+      go : FirstBroken n a ps c ⊎ ((j : ℕ) → j < c → standing_at n a ps j ≡ Ok tt) → (s : Standing) →
           standing_at n a ps c ≡ s →
-          FirstBroken n a ps (suc c) ⊎ ((j : ℕ) → j < suc c → standing_at n a ps j ≡ Kept)
+          FirstBroken n a ps (suc c) ⊎ ((j : ℕ) → j < suc c → standing_at n a ps j ≡ Ok tt)
       go (inl f) s e =
           inl
           (record {
@@ -147,9 +145,9 @@ module _ {A L : Type 0} (k : TableText A L) where
             kept = f.kept;
             broken = f.broken;
           })
-      go (inr r) Kept e = inr (upto (λ j. standing_at n a ps j ≡ Kept) c r e)
-      go (inr r) (Broken why field) e =
-          inl (record { place = c; why = why; field = field; below = omega arith; kept = r; broken = e })
+      go (inr r) (Ok tt) e = inr (upto (λ j. standing_at n a ps j ≡ Ok tt) c r e)
+      go (inr r) (Err f) e =
+          inl (record { place = c; why = f.why; field = f.field; below = omega arith; kept = r; broken = e })
 
   -- closed lines that all stand lead to the end
   from_kept : (n : ℕ) (a : A) (ls : List (List ℕ)) → LinesKeep k n a (map k.says ls) →
@@ -222,7 +220,7 @@ module _ {A L : Type 0} (k : TableText A L) where
 
   -- What holds of every refusal that can be, and of every end, holds of the answer to every text.
   module _ (P : ReadOf A → Type 0)
-      (broken : (n : ℕ) (a : A) (l : L) (why : Refusal) (field : ℕ) → k.stands n a l ≡ Broken why field →
+      (broken : (n : ℕ) (a : A) (l : L) (why : Refusal) (field : ℕ) → k.stands n a l ≡ breaks why field →
       P (refused_beside k.none why n field))
       (unclosed : (n : ℕ) → P (refused_beside k.none Malformed n 0))
       (ends : (n : ℕ) (a : A) → P (k.ends n a)) where
@@ -234,8 +232,8 @@ module _ {A L : Type 0} (k : TableText A L) where
         go (k.stands n a (k.says l)) refl (lines_ind (n + 1) (k.grows a (k.says l)) (m ∷ ms))
       where
         go : (s : Standing) → k.stands n a (k.says l) ≡ s → {r : ReadOf A} → P r → P (line_told k.none n s r)
-        go Kept e p = p
-        go (Broken why field) e p = broken n a (k.says l) why field e
+        go (Ok tt) e p = p
+        go (Err f) e p = broken n a (k.says l) f.why f.field e
 
     pub text_ind : P (refused_beside k.none OutOfBounds 0 0) → (text : List ℕ) → P (read_text k text)
     unfolding read_text
@@ -243,8 +241,17 @@ module _ {A L : Type 0} (k : TableText A L) where
         if_ind P (leb (length text) 16384) (λ e. lines_ind 1 k.none (split line_feed text)) (λ e. long)
 
   -- "a refused read hands back no table": so it is, if it is so of every end
-  pub taken_or_none : ((n : ℕ) (a : A) → ((k.ends n a).answer ≡ Taken) ⊎ ((k.ends n a).rows ≡ k.none)) →
-      (text : List ℕ) → ((read_text k text).answer ≡ Taken) ⊎ ((read_text k text).rows ≡ k.none)
+  pub taken_or_none : ((n : ℕ) (a : A) → ((k.ends n a).answer ≡ Ok tt) ⊎ ((k.ends n a).rows ≡ k.none)) →
+      (text : List ℕ) → ((read_text k text).answer ≡ Ok tt) ⊎ ((read_text k text).rows ≡ k.none)
   taken_or_none ends text =
-      text_ind (λ r. (r.answer ≡ Taken) ⊎ (r.rows ≡ k.none)) (λ n a l why field e. inr refl)
+      text_ind (λ r. (r.answer ≡ Ok tt) ⊎ (r.rows ≡ k.none)) (λ n a l why field e. inr refl)
       (λ n. inr refl) ends (inr refl) text
+
+-- what is handed back as a table is the table of a text that is taken
+pub handed_taken : {T : Type 0} (r : Read T) (t : T) → handed r ≡ Ok t → (r.answer ≡ Ok tt) × (r.table ≡ t)
+unfolding handed
+handed_taken r t e = go r.answer refl e
+  where
+    go : (a : Reading) → r.answer ≡ a → handed_by r.table a ≡ Ok t → (r.answer ≡ Ok tt) × (r.table ≡ t)
+    go (Ok tt) f h = (f, cc)
+    go (Err why) f h = cc

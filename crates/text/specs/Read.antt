@@ -2,35 +2,33 @@
 -- 4; then 5 for the first pair of server rows with equal priority, smaller row first (pairs ordered
 -- by it, then by the larger row), then the same for tasks." 02, No. 2: "4 goes; 41 to 45 stand in
 -- its place"; "with 1, 2, 3 and all of these give the field".
-use Rattle.std.specs.Prelude.{not, List, [], ◌∷◌, ℕ, ◌+◌, length, Option}
+use Rattle.std.specs.Prelude.{not, List, [], ◌∷◌, ℕ, ◌+◌, length, Option, Err, Ok}
 use Rattle.laws.specs.Choice.{unless◌say◌else◌}
 use Rattle.table.specs.declared.Refusal.{Refusal}
 use Rattle.table.specs.declared.Refusal.TheVariants.{Malformed, EqualPriorities}
-use Rattle.table.specs.Refusals.{number_of}
+use Rattle.table.specs.Refusals.{number_of, Standing}
 use Rattle.table.specs.Pairs.{equal_servers, equal_tasks}
 use Rattle.table.specs.Rows.{Rows, no_rows, table_of}
-use Rattle.table.specs.declared.Standing.{Standing}
-use Rattle.text.specs.declared.Reading.{Reading}
-use Rattle.text.specs.declared.Reading.TheVariants.{Taken, Refused, Equal}
-use Rattle.text.specs.declared.Read.{Read}
 use Rattle.text.specs.declared.Line.{Line}
 use Rattle.text.specs.Line.{read_line}
 use Rattle.text.specs.Standing.{is_nil, standing, grown}
-use Rattle.text.specs.TableText.{ReadOf, TableText, refused_beside, equal_beside, pair_told, line_told}
+use Rattle.text.specs.TableText.{ReadOf, TableText, refused_beside, equal_beside, pair_told, line_told, Reading, Read}
 use Rattle.text.specs.TableText.{read_lines, read_text}
 pub use Rattle.text.specs.TableText.{taken}
+use Rattle.text.specs.declared.ReadError.TheVariants.{Equal, Refused}
+use Rattle.table.specs.declared.Table.{Table}
 
 -- The paper's number of each answer, 0 where the text is taken, and what comes back with it: the
 -- line and the field, "both lines".
 abbrev pub reading_number : Reading → ℕ
-reading_number Taken = 0
-reading_number (Refused why line field) = number_of why
-reading_number (Equal first second) = number_of EqualPriorities
+reading_number (Ok tt) = 0
+reading_number (Err (Refused why line field)) = number_of why
+reading_number (Err (Equal first second)) = number_of EqualPriorities
 
 abbrev pub reading_values : Reading → List ℕ
-reading_values Taken = []
-reading_values (Refused why line field) = line ∷ field ∷ []
-reading_values (Equal first second) = first ∷ second ∷ []
+reading_values (Ok tt) = []
+reading_values (Err (Refused why line field)) = line ∷ field ∷ []
+reading_values (Err (Equal first second)) = first ∷ second ∷ []
 
 -- The answer, and the rows of a text that is taken; beside a refusal stand no rows.
 abbrev pub ReadRows : Type 0
@@ -69,5 +67,5 @@ unfolding read_text read_lines
 read = read_text table_text
 
 -- As the reader hands it back: the table beside a refusal is no_table of crate table.
-unfoldable pub shown : ReadRows → Read
+unfoldable pub shown : ReadRows → Read Table
 shown r = record { answer = r.answer; table = table_of r.rows }

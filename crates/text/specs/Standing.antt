@@ -2,7 +2,7 @@
 -- No. 2: "4 goes; 41 to 45 stand in its place", and which field is told, "counted from 1 after the
 -- leading word, or 0 for the line itself". A rule on the fields is a list of tests, one for the
 -- line itself and one for each field: the place of the first that fails is the field told.
-use Rattle.std.specs.Prelude.{Bool, true, false, not, ◌&&◌, List, [], ◌∷◌, ◌++◌, ℕ, ◌+◌, ◌*◌, ◌/◌, ◌%◌, leb, ltb, eqb, length, None, Option, Some}
+use Rattle.std.specs.Prelude.{Bool, true, false, not, ◌&&◌, List, [], ◌∷◌, ◌++◌, ℕ, ◌+◌, ◌*◌, ◌/◌, ◌%◌, leb, ltb, eqb, length, None, Option, Some, Ok}
 use Rattle.laws.specs.Choice.{unless◌say◌else◌, within}
 use Rattle.laws.specs.Search.{first_failed}
 use Rattle.laws.specs.RoundUp.{up}
@@ -13,8 +13,6 @@ use Rattle.table.specs.declared.Server.{Server}
 use Rattle.table.specs.declared.Task.{Task}
 use Rattle.table.specs.declared.Refusal.{Refusal}
 use Rattle.table.specs.declared.Refusal.TheVariants.{Malformed, OutOfBounds, NotWhole}
-use Rattle.table.specs.declared.Standing.{Standing}
-use Rattle.table.specs.declared.Standing.TheVariants.{Kept, Broken}
 use Rattle.table.specs.Rows.{Rows}
 use Rattle.table.specs.Rules.{tick_keeps, priority_keeps, limit_keeps, task_fault}
 use Rattle.text.specs.declared.ServerLine.{ServerLine}
@@ -24,6 +22,7 @@ use Rattle.text.specs.declared.Word.TheVariants.{ATick, AServer, ATask, Unknown}
 use Rattle.text.specs.declared.Line.{Line}
 use Rattle.text.specs.declared.Line.TheVariants.{OfTick, OfServer, OfTask, Malformed as MalformedLine}
 use Rattle.text.specs.Line.{word_of, malformed_at}
+use Rattle.table.specs.Refusals.{breaks, Standing}
 
 -- no row
 abbrev pub is_nil : {A : Type 0} → List A → Bool
@@ -147,22 +146,22 @@ wholes a (MalformedLine word field) = []
 -- timed home with another degraded server, falling limits": table's own rule, for a row "however
 -- great its number" and for the limits as they are rounded up
 unfoldable pub fault : Rows → Line → Standing
-fault a (OfTick t) = Kept
-fault a (OfServer s) = Kept
+fault a (OfTick t) = Ok tt
+fault a (OfServer s) = Ok tt
 fault a (OfTask k) = task_fault a.servers k.home k.degraded (limits_of a.tick.0 k.limit)
-fault a (MalformedLine word field) = Kept
+fault a (MalformedLine word field) = Ok tt
 
 -- the field at which a test fails is told with its reason; where none does, r is said
 infixr 5 tell◌at◌or◌
 abbrev pub tell◌at◌or◌ : Refusal → Option ℕ → Standing → Standing
-tell◌at◌or◌ why (Some field) r = Broken why field
+tell◌at◌or◌ why (Some field) r = breaks why field
 tell◌at◌or◌ why None r = r
 
 -- All of 1, then all of 2, all of 3, then 41 to 45. A line that is misplaced has the wrong leading
 -- word for its place: "told first, as 0".
 unfoldable pub standing : ℕ → Rows → Line → Standing
 standing n a l =
-    unless placed n a (word_of l) say Broken Malformed 0
+    unless placed n a (word_of l) say breaks Malformed 0
     else tell Malformed at malformed_at l
     or tell OutOfBounds at first_failed (bounds a l)
     or tell NotWhole at first_failed (wholes a l)

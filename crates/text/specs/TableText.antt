@@ -1,16 +1,19 @@
 -- 01, Numbers for no: how the text of a table is read, of whatever kind the table is. "Reading:
 -- length first; then line by line". What is a kind's own (what its lines say, where they may stand,
 -- what is asked at the end) is a record TableText; document 01's is table_text in Read.antt.
-use Rattle.std.specs.Prelude.{◌≡◌, List, [], ◌∷◌, map, ℕ, ◌+◌, leb, length, get_or, take, None, Option, Some}
+use Rattle.std.specs.Prelude.{◌≡◌, List, [], ◌∷◌, map, ℕ, ◌+◌, leb, length, get_or, take, None, Option, Some, Err, Ok, Result}
 use Rattle.laws.specs.Choice.{unless◌say◌else◌}
 use Rattle.decimal.specs.Lines.{line_feed, split}
 use Rattle.table.specs.declared.Refusal.{Refusal}
 use Rattle.table.specs.declared.Refusal.TheVariants.{Malformed, OutOfBounds}
-use Rattle.table.specs.declared.Standing.{Standing}
-use Rattle.table.specs.declared.Standing.TheVariants.{Kept, Broken}
-use Rattle.text.specs.declared.Reading.{Reading}
-use Rattle.text.specs.declared.Reading.TheVariants.{Taken, Refused, Equal}
 use Rattle.text.specs.Standing.{is_nil}
+use Rattle.text.specs.declared.ReadError.{ReadError}
+use Rattle.text.specs.declared.ReadError.TheVariants.{Equal, Refused}
+use Rattle.table.specs.Refusals.{breaks, Standing}
+
+-- What the reader answers: that the text is taken, or why it is none.
+abbrev pub Reading : Type 0
+Reading = Result (Unit {0}) ReadError
 
 -- The answer, and the rows of a text that is taken.
 pub record ReadOf (A : Type 0) : Type 0 where
@@ -18,14 +21,27 @@ pub record ReadOf (A : Type 0) : Type 0 where
   pub rows : A
 
 abbrev pub taken : {A : Type 0} → A → ReadOf A
-taken a = record { answer = Taken; rows = a }
+taken a = record { answer = Ok tt; rows = a }
 
 -- "a refused read hands back no table": beside a refusal stand the rows of nothing
 abbrev pub refused_beside : {A : Type 0} → A → Refusal → ℕ → ℕ → ReadOf A
-refused_beside none why line field = record { answer = Refused why line field; rows = none }
+refused_beside none why line field = record { answer = Err (Refused why line field); rows = none }
 
 abbrev pub equal_beside : {A : Type 0} → A → ℕ → ℕ → ReadOf A
-equal_beside none first second = record { answer = Equal first second; rows = none }
+equal_beside none first second = record { answer = Err (Equal first second); rows = none }
+
+-- The answer with the table that the rows make: of a refused text the table of nothing.
+pub record Read (T : Type 0) : Type 0 where
+  pub answer : Reading
+  pub table : T
+
+-- As the reader hands it back: the table of a text that is taken, or why it is none.
+abbrev pub handed_by : {T : Type 0} → T → Reading → Result T ReadError
+handed_by t (Ok tt) = Ok t
+handed_by t (Err why) = Err why
+
+unfoldable pub handed : {T : Type 0} → Read T → Result T ReadError
+handed r = handed_by r.table r.answer
 
 -- 5, "equal priorities", "both lines". "Rows count from 0 within their kind, lines from 1": row 0
 -- stands on line `top`. Where no two are equal, r is said.
@@ -35,8 +51,8 @@ pair_told none top None r = r
 
 -- The first line that breaks a rule is told. Where line n keeps them, r is said.
 abbrev pub line_told : {A : Type 0} → A → ℕ → Standing → ReadOf A → ReadOf A
-line_told none n Kept r = r
-line_told none n (Broken why field) r = refused_beside none why n field
+line_told none n (Ok tt) r = r
+line_told none n (Err f) r = refused_beside none f.why n f.field
 
 -- A kind of table, as its text is read. A are its rows, L is what a line of it can say.
 pub record TableText (A L : Type 0) : Type 0 where
@@ -68,7 +84,7 @@ read_text k text =
 -- each line keeps the rules where it stands: the first as line n, below the rows a
 abbrev pub LinesKeep : {A L : Type 0} → TableText A L → ℕ → A → List L → Type 0
 LinesKeep k n a [] = Unit {0}
-LinesKeep k n a (l ∷ ls) = (k.stands n a l ≡ Kept) × LinesKeep k (n + 1) (k.grows a l) ls
+LinesKeep k n a (l ∷ ls) = (k.stands n a l ≡ Ok tt) × LinesKeep k (n + 1) (k.grows a l) ls
 
 -- the rows a with those of the lines
 unfoldable pub rows_grown : {A L : Type 0} → TableText A L → A → List L → A

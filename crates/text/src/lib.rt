@@ -4,7 +4,7 @@
 
 #![tactic(auto)]
 
-use table::{ByMode, Kind, Level, Refusal, Table};
+use table::{ByMode, Kind, Level, Refusal};
 use units::Micros;
 
 // "The text is at most 16,384 bytes".
@@ -49,11 +49,10 @@ pub enum Line {
     Malformed(Word, usize),
 }
 
-// What the reader answers: lines count from 1, and 0 is the text itself; fields count from 1 after
-// the leading word, and 0 is the line itself.
+// Why a text is no table. Lines count from 1, and 0 is the text itself; fields count from 1 after the
+// leading word, and 0 is the line itself.
 #[derive(Clone, Copy)]
-pub enum Reading {
-    Taken,
+pub enum ReadError {
     Refused {
         why: Refusal,
         line: usize,
@@ -63,12 +62,4 @@ pub enum Reading {
         first: usize,
         second: usize,
     },
-}
-
-// The table stands beside the answer. Where the text is refused it is one without rows, noTable of
-// crate table.
-#[derive(Clone, Copy)]
-pub struct Read {
-    pub answer: Reading,
-    pub table: Table,
 }

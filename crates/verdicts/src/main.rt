@@ -11,7 +11,7 @@ ghost use Rattle.table.specs.Rules.{table_keeps};
 ghost use Rattle.verdicts.specs.Page.{verdict_word, row_line, page};
 
 use decimal::put::{put_all, put_byte, put_number};
-use files::given::{Case, say_refused};
+use files::given::say_refused;
 use std::process::ExitCode;
 use std::rt::Runtime;
 use table::{ByMode, Table};
@@ -83,16 +83,13 @@ fn is_answered<R: Runtime>(rt: &R) -> bool {
     let Some(mut source) = files::open_argument(rt, 1) else {
         return false;
     };
-    let given = files::given::take_table(rt, &mut source);
-    let t = given.table;
-    let case = given.case;
-    let Case::Read(answer) = case else {
+    let Some(read) = files::given::take_table(rt, &mut source) else {
         return false;
     };
-    let said = say_refused(rt, answer);
-    if said.refused {
-        return said.written;
-    }
+    let t: Table = match say_refused(rt, read) {
+        Ok(table) => table,
+        Err(written) => return written,
+    };
     let mut room = [0u8; ROOM];
     let n = put_page(t, &mut room);
     files::write_first(rt, &room, n)

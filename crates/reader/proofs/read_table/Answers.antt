@@ -1,5 +1,6 @@
 -- `reader::read_table` meets its contract: t holds the rows of the lines before line n, which
 -- begins at `at`, so what the text says is what is said from there on. Assumes nothing.
+use Rattle.std.proofs.Common.{Ok}
 use mathlib.Core.Path.{◌≡◌, sym, ap, subst, ◌∙◌}
 use mathlib.Core.List.{List}
 use Prim.Native.Nat.{ℕ, ◌+◌, ◌≤◌, ◌<◌}
@@ -9,7 +10,6 @@ use lib.ListN.{length, drop, length-drop}
 use Rattle.decimal.specs.Lines.{line_feed, split}
 use Rattle.decimal.specs.Inner.Fields.{first_line}
 use Rattle.decimal.proofs.Inner.Fields.{line_within}
-use Rattle.table.specs.declared.Standing.TheVariants.{Kept}
 use Rattle.table.specs.Rows.{rows_of, table_of}
 use Rattle.table.specs.declared.Table.{Table}
 use Rattle.text.specs.declared.ServerLine.{ServerLine}
@@ -20,6 +20,7 @@ use Rattle.text.specs.Standing.{standing, grown}
 use Rattle.text.specs.Read.{table_text, read, shown}
 use Rattle.text.proofs.TableText.{text_long, text_short}
 use Rattle.text.proofs.RoundTrip.{table_rows}
+use Rattle.text.specs.TableText.{handed}
 use Rattle.reader.specs.Inner.{Above}
 use Rattle.reader.proofs.Inner.{ServerGrows, TaskGrows, server_grows, task_grows, above_next}
 use Rattle.reader.proofs.Inner.{put_tick, put_server, put_task, put_none}
@@ -34,18 +35,18 @@ within : (text : List ℕ) (at end : ℕ) → end ≡ length (first_line (drop a
 within text at end e h = omega (arith, e, line_within (drop at text), length-drop at text)
 
 -- a line that is kept has room for its row
-server_room : (n : ℕ) (t : Table) (x : Line) (s : ServerLine) → Above n t → standing n (rows_of t) x ≡ Kept →
+server_room : (n : ℕ) (t : Table) (x : Line) (s : ServerLine) → Above n t → standing n (rows_of t) x ≡ Ok tt →
     x ≡ OfServer s → ServerGrows t s
 server_room n t x s a k e = server_grows n t a s (rw e at k)
 
-task_room : (n : ℕ) (t : Table) (x : Line) (k : TaskLine) → Above n t → standing n (rows_of t) x ≡ Kept →
+task_room : (n : ℕ) (t : Table) (x : Line) (k : TaskLine) → Above n t → standing n (rows_of t) x ≡ Ok tt →
     x ≡ OfTask k → TaskGrows t k
 task_room n t x k a h e = task_grows n t a k (rw e at h)
 
 pub returns-then-text-gt-LONGEST_TEXT : goal.returns-then-text-gt-LONGEST_TEXT
-unfolding read
+unfolding read shown handed
 returns-then-text-gt-LONGEST_TEXT c =
-    c.refuse.ensures ∙ ap shown (text_long table_text c.args.text.now c.if-text-gt-LONGEST_TEXT.true)
+    ap (λ x. handed (shown x)) (text_long table_text c.args.text.now c.if-text-gt-LONGEST_TEXT.true)
 
 pub loop-at-init : goal.loop-at-init
 loop-at-init c = (
@@ -59,12 +60,12 @@ pub end-requires : goal.end-requires
 end-requires c = c.loop-at.invariant.2
 
 pub returns-then-at-text : goal.returns-then-at-text
-unfolding read
+unfolding read shown handed
 returns-then-at-text c =
     let l = c.loop-at in
     let s = c.args.text.now in
     c.end.ensures
-    ∙ ap shown
+    ∙ ap (λ x. handed (shown x))
     (from_end table_text l.n (rows_of l.t) s l.at (omega arith)
     ∙ sym l.invariant.3
     ∙ text_short table_text s c.if-text-gt-LONGEST_TEXT.false)
@@ -77,59 +78,32 @@ overflow_add-e c =
     record { fits = omega (arith, ends, c.if-text-gt-LONGEST_TEXT.false) }
 
 pub returns-then-e-text : goal.returns-then-e-text
-unfolding read
+unfolding read shown handed
 returns-then-e-text c =
     let l = c.loop-at in
     let s = c.args.text.now in
     let said = line_lent s l.at c.read_line-r.result c.read_line-r.ensures in
-    c.refuse-then-e-text.ensures
-    ∙ ap shown
+    ap (λ x. handed (shown x))
     (from_unclosed table_text l.n (rows_of l.t) s l.at (l.at + c.read_line-r.result.end) (ap (λ x. l.at + x) said.1)
     (omega (arith, c.if-e-text.true)) (lt_of_le-ne l.invariant.0 c.if-at-text.false)
     ∙ sym l.invariant.3
     ∙ text_short table_text s c.if-text-gt-LONGEST_TEXT.false)
 
--- the rows that the line names are read where there are rows
-pub offset_bounds-t-i : goal.offset_bounds-t-i
-offset_bounds-t-i c =
-    let r = c.named_rows-named.result in
-    let named : (r.home < 32) × (r.degraded < 32) = rw c.named_rows-named.ensures (named_below c.read_line-r.result.line) in
-    record { fits = omega (arith, named) }
-
-pub bounds-t-i : goal.bounds-t-i
-bounds-t-i c =
-    let r = c.named_rows-named.result in
-    let named : (r.home < 32) × (r.degraded < 32) = rw c.named_rows-named.ensures (named_below c.read_line-r.result.line) in
-    named.0
-
-pub offset_bounds-t-j : goal.offset_bounds-t-j
-offset_bounds-t-j c =
-    let r = c.named_rows-named.result in
-    let named : (r.home < 32) × (r.degraded < 32) = rw c.named_rows-named.ensures (named_below c.read_line-r.result.line) in
-    record { fits = omega (arith, named) }
-
-pub bounds-t-j : goal.bounds-t-j
-bounds-t-j c =
-    let r = c.named_rows-named.result in
-    let named : (r.home < 32) × (r.degraded < 32) = rw c.named_rows-named.ensures (named_below c.read_line-r.result.line) in
-    named.1
-
 pub line_standing-standing-requires : goal.line_standing-standing-requires
 line_standing-standing-requires c = let r = c.loop-at.invariant.2 in (r.first, r.below)
 
-pub returns-in-Broken : goal.returns-in-Broken
-unfolding read
-returns-in-Broken c =
+pub returns-in-Err : goal.returns-in-Err
+unfolding read shown handed
+returns-in-Err c =
     let l = c.loop-at in
     let s = c.args.text.now in
     let x = c.read_line-r.result.line in
     let said = line_lent s l.at c.read_line-r.result c.read_line-r.ensures in
     let ends = within s l.at _ said.1 l.invariant.0 in
-    c.refuse-in-Broken.ensures
-    ∙ ap shown
+    ap (λ x. handed (shown x))
     (from_broken table_text l.n (rows_of l.t) s l.at (l.at + c.read_line-r.result.end) (ap (λ x. l.at + x) said.1)
-    x c.in-Broken.why c.in-Broken.field (lt_of_le-ne ends c.if-e-text.false) said.0
-    (sym (c.line_standing-standing.ensures ∙ standing_by_lem l.n l.t l.invariant.2 _ _ c.named_rows-named.ensures) ∙ c.in-Broken.is)
+    x c.in-Err.fault.why c.in-Err.fault.field (lt_of_le-ne ends c.if-e-text.false) said.0
+    (sym (c.line_standing-standing.ensures ∙ standing_by_lem l.n l.t l.invariant.2 _ _ c.named_rows-named.ensures) ∙ c.in-Err.is)
     ∙ sym l.invariant.3
     ∙ text_short table_text s c.if-text-gt-LONGEST_TEXT.false)
 
@@ -140,15 +114,8 @@ server_row-requires c =
     let g = server_room l.n l.t c.read_line-r.result.line c.in-OfServer.s l.invariant.2 kept c.in-OfServer.is in
     (g.tick, g.bounded)
 
-pub offset_bounds-t-count : goal.offset_bounds-t-count
-offset_bounds-t-count c =
-    let l = c.loop-at in
-    let kept = sym (c.line_standing-standing.ensures ∙ standing_by_lem l.n l.t l.invariant.2 _ _ c.named_rows-named.ensures) ∙ c.in_default.is in
-    let g = server_room l.n l.t c.read_line-r.result.line c.in-OfServer.s l.invariant.2 kept c.in-OfServer.is in
-    record { fits = omega (arith, g.room) }
-
-pub bounds-t-count : goal.bounds-t-count
-bounds-t-count c =
+pub bounds-t-t : goal.bounds-t-t
+bounds-t-t c =
     let l = c.loop-at in
     let kept = sym (c.line_standing-standing.ensures ∙ standing_by_lem l.n l.t l.invariant.2 _ _ c.named_rows-named.ensures) ∙ c.in_default.is in
     let g = server_room l.n l.t c.read_line-r.result.line c.in-OfServer.s l.invariant.2 kept c.in-OfServer.is in
@@ -168,15 +135,8 @@ task_row-requires c =
     let g = task_room l.n l.t c.read_line-r.result.line c.in-OfTask.k l.invariant.2 kept c.in-OfTask.is in
     (g.tick, g.keeps, g.home, g.degraded)
 
-pub offset_bounds-t-count-in-OfTask : goal.offset_bounds-t-count-in-OfTask
-offset_bounds-t-count-in-OfTask c =
-    let l = c.loop-at in
-    let kept = sym (c.line_standing-standing.ensures ∙ standing_by_lem l.n l.t l.invariant.2 _ _ c.named_rows-named.ensures) ∙ c.in_default.is in
-    let g = task_room l.n l.t c.read_line-r.result.line c.in-OfTask.k l.invariant.2 kept c.in-OfTask.is in
-    record { fits = omega (arith, g.room) }
-
-pub bounds-t-count-in-OfTask : goal.bounds-t-count-in-OfTask
-bounds-t-count-in-OfTask c =
+pub bounds-t-t-in-OfTask : goal.bounds-t-t-in-OfTask
+bounds-t-t-in-OfTask c =
     let l = c.loop-at in
     let kept = sym (c.line_standing-standing.ensures ∙ standing_by_lem l.n l.t l.invariant.2 _ _ c.named_rows-named.ensures) ∙ c.in_default.is in
     let g = task_room l.n l.t c.read_line-r.result.line c.in-OfTask.k l.invariant.2 kept c.in-OfTask.is in
@@ -218,8 +178,8 @@ loop-at-preserved c =
     let said = line_lent s l.at c.read_line-r.result c.read_line-r.ensures in
     let ends = lt_of_le-ne (within s l.at _ said.1 l.invariant.0) c.if-e-text.false in
     let kept = sym (c.line_standing-standing.ensures ∙ standing_by_lem l.n l.t l.invariant.2 _ _ c.named_rows-named.ensures) ∙ c.in_default.is in
-    let put : c.match-l.t ≡ table_of (grown (rows_of l.t) x) =
-    elim c.match-l.branch [
+    let put : c.match-r.t ≡ table_of (grown (rows_of l.t) x) =
+    elim c.match-r.branch [
       | in-OfTick w ↦ w.t-is ∙ put_tick l.t (rows_of l.t) above.whole x _ w.in-OfTick.is
       | in-OfServer w ↦
           w.t-is ∙ put_server l.t (rows_of l.t) above.whole x _ _ w.in-OfServer.is
@@ -234,6 +194,6 @@ loop-at-preserved c =
       subst (Above (l.n + 1)) (sym put) (above_next l.n l.t x above kept),
       l.invariant.3
           ∙ from_kept table_text l.n (rows_of l.t) s l.at (l.at + c.read_line-r.result.end)
-          (ap (λ x. l.at + x) said.1) x (rows_of c.match-l.t) ends said.0 kept
+          (ap (λ x. l.at + x) said.1) x (rows_of c.match-r.t) ends said.0 kept
           (ap rows_of put ∙ table_rows (grown (rows_of l.t) x)),
     )

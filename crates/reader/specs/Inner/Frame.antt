@@ -1,13 +1,11 @@
 -- Only contracts of inner functions cite this file; a buyer need not read it. It says what is
 -- answered to a line of a frame box's text, and what the inner functions ask of the table that is
 -- being read.
-use Rattle.std.specs.Prelude.{◌≡◌, true, List, ℕ, ◌≤◌, ◌<◌}
+use Rattle.std.specs.Prelude.{◌≡◌, true, List, ℕ, ◌≤◌, ◌<◌, Ok}
 use Rattle.laws.specs.Choice.{unless◌say◌else◌}
 use Rattle.laws.specs.Search.{first_failed}
 use Rattle.decimal.specs.Inner.Fields.{first_line, fields_from}
 use Rattle.table.specs.declared.Refusal.TheVariants.{Malformed, OutOfBounds}
-use Rattle.table.specs.declared.Standing.{Standing}
-use Rattle.table.specs.declared.Standing.TheVariants.{Kept, Broken}
 use Rattle.table.specs.Rules.{tick_keeps}
 use Rattle.text.specs.declared.Word.{Word}
 use Rattle.text.specs.Standing.{tell◌at◌or◌}
@@ -21,6 +19,7 @@ use Rattle.frametable.specs.Text.{frame_placed, frame_task_bounds}
 use Rattle.reader.specs.declared.frame.FrameLineRead.{FrameLineRead}
 use Rattle.reader.specs.Inner.{tick_standing}
 use Rattle.reader.specs.Inner.Fields.{line_end}
+use Rattle.table.specs.Refusals.{breaks, Standing}
 
 -- where the line ends in which a place of a text lies
 abbrev pub frame_line_read : List ℕ → ℕ → FrameLine → FrameLineRead
@@ -43,14 +42,14 @@ pub record FrameAbove (n : ℕ) (t : FrameTable) : Type 0 where
 
 -- What `frame_standing` says, by what it asks of the rows above: the tick and how many there are.
 abbrev pub frame_task_standing : ℕ → ℕ → FrameTaskLine → Standing
-frame_task_standing tick tasks k = tell OutOfBounds at first_failed (frame_task_bounds tasks tick k) or Kept
+frame_task_standing tick tasks k = tell OutOfBounds at first_failed (frame_task_bounds tasks tick k) or (Ok tt)
 
 abbrev pub frame_in_place : ℕ → ℕ → FrameLine → Standing
 frame_in_place tick tasks (OfTick u) = tick_standing u
 frame_in_place tick tasks (OfTask k) = frame_task_standing tick tasks k
-frame_in_place tick tasks (NoForm word field) = Broken Malformed field
+frame_in_place tick tasks (NoForm word field) = breaks Malformed field
 
 abbrev pub frame_standing_by : ℕ → ℕ → ℕ → FrameLine → Standing
 frame_standing_by n tick tasks l =
-    unless frame_placed n (frame_word_of l) say Broken Malformed 0
+    unless frame_placed n (frame_word_of l) say breaks Malformed 0
     else frame_in_place tick tasks l

@@ -1,5 +1,6 @@
 -- `reader::frame::read_frame` meets its contract: t holds the rows of the lines before line n, which
 -- begins at `at`, so what the text says is what is said from there on. Assumes nothing.
+use Rattle.std.proofs.Common.{Ok}
 use mathlib.Core.Path.{◌≡◌, sym, ap, subst, ◌∙◌}
 use mathlib.Core.List.{List}
 use Prim.Native.Nat.{ℕ, ◌+◌, ◌≤◌}
@@ -9,7 +10,6 @@ use lib.ListN.{length, drop, length-drop}
 use Rattle.decimal.specs.Lines.{line_feed, split}
 use Rattle.decimal.specs.Inner.Fields.{first_line}
 use Rattle.decimal.proofs.Inner.Fields.{line_within}
-use Rattle.table.specs.declared.Standing.TheVariants.{Kept}
 use Rattle.text.proofs.TableText.{text_long, text_short}
 use Rattle.frametable.specs.declared.FrameTable.{FrameTable}
 use Rattle.frametable.specs.declared.FrameTaskLine.{FrameTaskLine}
@@ -17,6 +17,7 @@ use Rattle.frametable.specs.declared.FrameLine.{FrameLine}
 use Rattle.frametable.specs.declared.FrameLine.TheVariants.{OfTask}
 use Rattle.frametable.specs.Rows.{frame_rows_of, frame_table_of}
 use Rattle.frametable.specs.Text.{frame_standing, frame_grown, frame_text, frame_read, frame_shown}
+use Rattle.text.specs.TableText.{handed}
 use Rattle.reader.specs.Inner.Frame.{FrameAbove}
 use Rattle.reader.proofs.FrameText.{frame_line_lent, frame_table_rows, frame_standing_by_lem, frame_starts, frame_starts_from}
 use Rattle.reader.proofs.FrameText.{FrameTaskGrows, frame_task_grows, frame_above_next, frame_put_tick, frame_put_task, frame_put_none}
@@ -29,14 +30,14 @@ within : (text : List ℕ) (at end : ℕ) → end ≡ length (first_line (drop a
 within text at end e h = omega (arith, e, line_within (drop at text), length-drop at text)
 
 -- a line that is kept has room for its row
-task_room : (n : ℕ) (t : FrameTable) (x : FrameLine) (k : FrameTaskLine) → FrameAbove n t → frame_standing n (frame_rows_of t) x ≡ Kept →
+task_room : (n : ℕ) (t : FrameTable) (x : FrameLine) (k : FrameTaskLine) → FrameAbove n t → frame_standing n (frame_rows_of t) x ≡ Ok tt →
     x ≡ OfTask k → FrameTaskGrows t k
 task_room n t x k a h e = frame_task_grows n t a k (rw e at h)
 
 pub returns-then-text-gt-LONGEST_TEXT : goal.returns-then-text-gt-LONGEST_TEXT
-unfolding frame_read
+unfolding frame_read frame_shown handed
 returns-then-text-gt-LONGEST_TEXT c =
-    c.refuse.ensures ∙ ap frame_shown (text_long frame_text c.args.text.now c.if-text-gt-LONGEST_TEXT.true)
+    ap (λ x. handed (frame_shown x)) (text_long frame_text c.args.text.now c.if-text-gt-LONGEST_TEXT.true)
 
 pub loop-at-init : goal.loop-at-init
 loop-at-init c = (
@@ -50,12 +51,12 @@ pub end-requires : goal.end-requires
 end-requires c = c.loop-at.invariant.2
 
 pub returns-then-at-text : goal.returns-then-at-text
-unfolding frame_read
+unfolding frame_read frame_shown handed
 returns-then-at-text c =
     let l = c.loop-at in
     let s = c.args.text.now in
     c.end.ensures
-    ∙ ap frame_shown
+    ∙ ap (λ x. handed (frame_shown x))
     (from_end frame_text l.n (frame_rows_of l.t) s l.at (omega arith)
     ∙ sym l.invariant.3
     ∙ text_short frame_text s c.if-text-gt-LONGEST_TEXT.false)
@@ -68,62 +69,53 @@ overflow_add-e c =
     record { fits = omega (arith, ends, c.if-text-gt-LONGEST_TEXT.false) }
 
 pub returns-then-e-text : goal.returns-then-e-text
-unfolding frame_read
+unfolding frame_read frame_shown handed
 returns-then-e-text c =
     let l = c.loop-at in
     let s = c.args.text.now in
     let said = frame_line_lent s l.at c.read_line-r.result c.read_line-r.ensures in
-    c.refuse-then-e-text.ensures
-    ∙ ap frame_shown
+    ap (λ x. handed (frame_shown x))
     (from_unclosed frame_text l.n (frame_rows_of l.t) s l.at (l.at + c.read_line-r.result.end) (ap (λ x. l.at + x) said.1)
     (omega (arith, c.if-e-text.true)) (lt_of_le-ne l.invariant.0 c.if-at-text.false)
     ∙ sym l.invariant.3
     ∙ text_short frame_text s c.if-text-gt-LONGEST_TEXT.false)
 
-pub line_standing-standing-requires : goal.line_standing-standing-requires
-line_standing-standing-requires c = let r = c.loop-at.invariant.2 in r.below
+pub line_standing-requires : goal.line_standing-requires
+line_standing-requires c = let r = c.loop-at.invariant.2 in r.below
 
-pub returns-in-Broken : goal.returns-in-Broken
-unfolding frame_read
-returns-in-Broken c =
+pub returns-in-Err : goal.returns-in-Err
+unfolding frame_read frame_shown handed
+returns-in-Err c =
     let l = c.loop-at in
     let s = c.args.text.now in
     let x = c.read_line-r.result.line in
     let said = frame_line_lent s l.at c.read_line-r.result c.read_line-r.ensures in
     let ends = within s l.at _ said.1 l.invariant.0 in
-    c.refuse-in-Broken.ensures
-    ∙ ap frame_shown
+    ap (λ x. handed (frame_shown x))
     (from_broken frame_text l.n (frame_rows_of l.t) s l.at (l.at + c.read_line-r.result.end) (ap (λ x. l.at + x) said.1)
-    x c.in-Broken.why c.in-Broken.field (lt_of_le-ne ends c.if-e-text.false) said.0
-    (sym (c.line_standing-standing.ensures ∙ frame_standing_by_lem l.t l.invariant.2.whole l.n _) ∙ c.in-Broken.is)
+    x c.in-Err.fault.why c.in-Err.fault.field (lt_of_le-ne ends c.if-e-text.false) said.0
+    (sym (c.line_standing.ensures ∙ frame_standing_by_lem l.t l.invariant.2.whole l.n _) ∙ c.in-Err.is)
     ∙ sym l.invariant.3
     ∙ text_short frame_text s c.if-text-gt-LONGEST_TEXT.false)
 
 pub task_row-requires : goal.task_row-requires
 task_row-requires c =
     let l = c.loop-at in
-    let kept = sym (c.line_standing-standing.ensures ∙ frame_standing_by_lem l.t l.invariant.2.whole l.n _) ∙ c.in_default.is in
+    let kept = sym (c.line_standing.ensures ∙ frame_standing_by_lem l.t l.invariant.2.whole l.n _) ∙ c.in_default.is in
     let g = task_room l.n l.t c.read_line-r.result.line c.in-OfTask.k l.invariant.2 kept c.in-OfTask.is in
     (g.tick, g.keeps)
 
-pub offset_bounds-t-count : goal.offset_bounds-t-count
-offset_bounds-t-count c =
+pub bounds-t-t : goal.bounds-t-t
+bounds-t-t c =
     let l = c.loop-at in
-    let kept = sym (c.line_standing-standing.ensures ∙ frame_standing_by_lem l.t l.invariant.2.whole l.n _) ∙ c.in_default.is in
-    let g = task_room l.n l.t c.read_line-r.result.line c.in-OfTask.k l.invariant.2 kept c.in-OfTask.is in
-    record { fits = omega (arith, g.room) }
-
-pub bounds-t-count : goal.bounds-t-count
-bounds-t-count c =
-    let l = c.loop-at in
-    let kept = sym (c.line_standing-standing.ensures ∙ frame_standing_by_lem l.t l.invariant.2.whole l.n _) ∙ c.in_default.is in
+    let kept = sym (c.line_standing.ensures ∙ frame_standing_by_lem l.t l.invariant.2.whole l.n _) ∙ c.in_default.is in
     let g = task_room l.n l.t c.read_line-r.result.line c.in-OfTask.k l.invariant.2 kept c.in-OfTask.is in
     g.room
 
 pub overflow_add-t : goal.overflow_add-t
 overflow_add-t c =
     let l = c.loop-at in
-    let kept = sym (c.line_standing-standing.ensures ∙ frame_standing_by_lem l.t l.invariant.2.whole l.n _) ∙ c.in_default.is in
+    let kept = sym (c.line_standing.ensures ∙ frame_standing_by_lem l.t l.invariant.2.whole l.n _) ∙ c.in_default.is in
     let g = task_room l.n l.t c.read_line-r.result.line c.in-OfTask.k l.invariant.2 kept c.in-OfTask.is in
     record { fits = omega (arith, g.room) }
 
@@ -155,9 +147,9 @@ loop-at-preserved c =
     let above = l.invariant.2 in
     let said = frame_line_lent s l.at c.read_line-r.result c.read_line-r.ensures in
     let ends = lt_of_le-ne (within s l.at _ said.1 l.invariant.0) c.if-e-text.false in
-    let kept = sym (c.line_standing-standing.ensures ∙ frame_standing_by_lem l.t l.invariant.2.whole l.n _) ∙ c.in_default.is in
-    let put : c.match-l.t ≡ frame_table_of (frame_grown (frame_rows_of l.t) x) =
-    elim c.match-l.branch [
+    let kept = sym (c.line_standing.ensures ∙ frame_standing_by_lem l.t l.invariant.2.whole l.n _) ∙ c.in_default.is in
+    let put : c.match-r.t ≡ frame_table_of (frame_grown (frame_rows_of l.t) x) =
+    elim c.match-r.branch [
       | in-OfTick w ↦ w.t-is ∙ frame_put_tick l.t (frame_rows_of l.t) above.whole x _ w.in-OfTick.is
       | in-OfTask w ↦
           w.t-is ∙ frame_put_task l.t (frame_rows_of l.t) above.whole x _ _ w.in-OfTask.is
@@ -169,6 +161,6 @@ loop-at-preserved c =
       subst (FrameAbove (l.n + 1)) (sym put) (frame_above_next l.n l.t x above kept),
       l.invariant.3
           ∙ from_kept frame_text l.n (frame_rows_of l.t) s l.at (l.at + c.read_line-r.result.end)
-          (ap (λ x. l.at + x) said.1) x (frame_rows_of c.match-l.t) ends said.0 kept
+          (ap (λ x. l.at + x) said.1) x (frame_rows_of c.match-r.t) ends said.0 kept
           (ap frame_rows_of put ∙ frame_table_rows (frame_grown (frame_rows_of l.t) x)),
     )
