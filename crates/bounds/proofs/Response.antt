@@ -14,7 +14,8 @@ use lib.Dec.{ltb}
 use borrow.Author.Tests.{ltb-true, ltb-false}
 use Rattle.laws.specs.Rows.{sum_below}
 use Rattle.laws.specs.RoundUp.{up}
-use Rattle.laws.proofs.Choice.{le_or_lt, true_or_false}
+use Rattle.std.proofs.lemmas.Bool.{cases_Bool}
+use Rattle.laws.proofs.Choice.{le_or_lt}
 use Rattle.laws.proofs.Rows.{sum_le, sum_zero, sum_part}
 use Rattle.laws.proofs.RoundUp.{up_mono}
 use Rattle.bounds.proofs.Windows.{window, window_split, window_start, window_full, window_add, window_rows, window_none}
@@ -177,7 +178,7 @@ module _ (n len : ℕ) (timed : ℕ → Bool) (T : ℕ → ℕ) (C : ℕ → ℕ
 
       each : (y : ℕ) → y < x → window own s y < C i → 0 < high (s + y) + own (s + y)
       each y g c =
-          elim (true_or_false (busy n above (charge_of k) (s + y))) [
+          elim (cases_Bool (busy n above (charge_of k) (s + y))) [
             | inl b ↦ omega (arith, ltb-true 0 (high (s + y)) b)
             | inr b ↦ omega (arith, serves y g c (since y g) b)
           ]

@@ -5,7 +5,8 @@ use mathlib.Core.Bool.{Bool, true, false}
 use mathlib.Core.Logic.{◌⊎◌, inl, inr}
 use Prim.Native.Nat.{ℕ, zero, suc, ◌≤◌, ◌<◌}
 use native.Mathlib.Omega.{arith}
-use Rattle.laws.proofs.Choice.{le_or_lt, true_or_false}
+use Rattle.std.proofs.lemmas.Bool.{cases_Bool}
+use Rattle.laws.proofs.Choice.{le_or_lt}
 
 -- tick `from` begins such a stretch
 abbrev pub Begins : (ℕ → Bool) → ℕ → Type 0
@@ -20,7 +21,7 @@ pub record Stretch (p : ℕ → Bool) (s : ℕ) : Type 0 where
 
 pub stretch : (p : ℕ → Bool) (s : ℕ) → Stretch p s
 stretch p zero = record { from = 0; before = omega arith; begins = tt; passes = λ x l h. absurd (omega arith) }
-stretch p (suc s) = go (true_or_false (p s)) (stretch p s)
+stretch p (suc s) = go (cases_Bool (p s)) (stretch p s)
   where
     more : (r : Stretch p s) → p s ≡ true → (x : ℕ) → r.from ≤ x → x < suc s → p x ≡ true
     more r e x l h =

@@ -2,11 +2,13 @@
 -- number if nothing stands after them and they lead well. Assumes nothing.
 pub mod Fields
 use Rattle.std.specs.Prelude.{if◌then◌else◌, None, Option, Some}
-use Rattle.std.proofs.Common.{◌≡◌, ℕ, zero, suc, ◌+◌, ◌-◌, ◌*◌, ◌%◌, ◌^◌, ◌<◌, ◌≤◌, min, Bool, true, false, List, [], ◌∷◌, ◌++◌, length, get_or, take, drop, sym, refl, ap, ◌∙◌, inl, inr, add-zero, mul-le-mul_right, pow-suc, arith, lit<, length-drop, drop_of_length-le, length-take, length-take-le, get_or-drop, get_or-take, take-suc, ne_eqb}
+use Rattle.std.proofs.Common.{◌≡◌, ℕ, zero, suc, ◌+◌, ◌-◌, ◌*◌, ◌%◌, ◌^◌, ◌<◌, ◌≤◌, min, Bool, true, false, List, [], ◌∷◌, ◌++◌, length, get_or, take, drop, sym, refl, ap, ◌∙◌, inl, inr, add-zero, mul-le-mul_right, pow-suc, add-one, arith, lit<, length-drop, drop_of_length-le, length-take, length-take-le, get_or-drop, get_or-take, take-suc, ne_eqb}
 use native.Mathlib.Nat.{pow-zero, pow-le-pow_right}
 use lib.Arith.{lt_of_le-ne}
 use Rattle.laws.specs.Choice.{within, every}
-use Rattle.laws.proofs.Choice.{clash, and_left, and_right, within_low, within_high, is_within, le_or_lt, is_false}
+use Rattle.std.specs.Cmp.{first_so, second_so}
+use Rattle.std.proofs.lemmas.Bool.{false_from_ne_true}
+use Rattle.laws.proofs.Choice.{clash, within_low, within_high, is_within, le_or_lt}
 use Rattle.decimal.specs.Number.{are_digits, leads_well, number_form, is_number, worth_from, worth, read_number}
 use Rattle.decimal.specs.declared.Digits.{Digits}
 use Rattle.decimal.specs.declared.End.{End}
@@ -22,40 +24,30 @@ pub digit_of : (b r : ℕ) → b < 256 → r < 18446744073709551616 → (r + 48)
 digit_of b r h k e =
     record {
       worths = λ l. omega arith;
-      none = λ l. is_false (within 48 57 b) (λ w. omega (arith, within_low 48 57 b w, within_high 48 57 b w));
+      none = λ l. false_from_ne_true (within 48 57 b) (λ w. omega (arith, within_low 48 57 b w, within_high 48 57 b w));
     }
 
--- the bytes from `at` up to i, and one more
-part_more : (s : List ℕ) (at i : ℕ) → at ≤ i → i < length s →
-    take (i + 1 - at) (drop at s) ≡ take (i - at) (drop at s) ++ (get_or s i 0 ∷ [])
-part_more s at i h l =
-    let e : i + 1 - at ≡ suc (i - at) = omega arith in
-    let f : at + (i - at) ≡ i = omega arith in
-    rw (e, take-suc (drop at s) (i - at) 0 (omega (arith, length-drop at s)), get_or-drop at s (i - at) 0, f)
+-- a byte of a part, in the whole
+pub byte_of : (s : List ℕ) (at n i : ℕ) → i < n → get_or (take n (drop at s)) i 0 ≡ get_or s (at + i) 0
+byte_of s at n i h = get_or-take n (drop at s) i 0 h ∙ get_or-drop at s i 0
 
-pub digits_more : (s : List ℕ) (at i : ℕ) → at ≤ i → i < length s → within 48 57 (get_or s i 0) ≡ true →
-    are_digits (take (i - at) (drop at s)) ≡ true → are_digits (take (i + 1 - at) (drop at s)) ≡ true
+-- the first i bytes from `at` on, and one more
+part_more : (s : List ℕ) (at i : ℕ) → at + i < length s →
+    take (i + 1) (drop at s) ≡ take i (drop at s) ++ (get_or s (at + i) 0 ∷ [])
+part_more s at i l =
+    rw (add-one i, take-suc (drop at s) i 0 (omega (arith, length-drop at s)), get_or-drop at s i 0)
+
+pub digits_more : (s : List ℕ) (at i : ℕ) → at + i < length s → within 48 57 (get_or s (at + i) 0) ≡ true →
+    are_digits (take i (drop at s)) ≡ true → are_digits (take (i + 1) (drop at s)) ≡ true
 unfolding are_digits
-digits_more s at i h l w e =
-    rw (part_more s at i h l) (digits_append (take (i - at) (drop at s)) (get_or s i 0 ∷ []) e (rw w))
+digits_more s at i l w e =
+    rw (part_more s at i l) (digits_append (take i (drop at s)) (get_or s (at + i) 0 ∷ []) e (rw w))
 
-pub worths_more : (s : List ℕ) (at i v d : ℕ) → at ≤ i → i < length s → 48 + d ≡ get_or s i 0 →
-    v ≡ worth (take (i - at) (drop at s)) → v * 10 + d ≡ worth (take (i + 1 - at) (drop at s))
-worths_more s at i v d h l w e =
-    let q : get_or s i 0 - 48 ≡ d = omega arith in
-    rw (part_more s at i h l, worth_more 0 (get_or s i 0) (take (i - at) (drop at s)), q, e)
-
--- before the first byte there is none
-none_yet : (s : List ℕ) (at : ℕ) → take (at - at) (drop at s) ≡ []
-none_yet s at = let e : at - at ≡ 0 = omega arith in rw e
-
-pub no_digits : (s : List ℕ) (at : ℕ) → are_digits (take (at - at) (drop at s)) ≡ true
-unfolding are_digits
-no_digits s at = rw (none_yet s at)
-
-pub no_worth : (s : List ℕ) (at : ℕ) → 0 ≡ worth (take (at - at) (drop at s))
-unfolding worth_from
-no_worth s at = rw (none_yet s at)
+pub worths_more : (s : List ℕ) (at i v d : ℕ) → at + i < length s → 48 + d ≡ get_or s (at + i) 0 →
+    v ≡ worth (take i (drop at s)) → v * 10 + d ≡ worth (take (i + 1) (drop at s))
+worths_more s at i v d l w e =
+    let q : get_or s (at + i) 0 - 48 ≡ d = omega arith in
+    rw (part_more s at i l, worth_more 0 (get_or s (at + i) 0) (take i (drop at s)), q, e)
 
 -- ten digits and one more are far from 2 ^ 64
 below_more : (v d p w : ℕ) → d ≤ 9 → w < (v * 10 + d + 1) * p → w < (v + 1) * (p * 10)
@@ -66,18 +58,26 @@ worth_below : (v : ℕ) (bs : List ℕ) → are_digits bs ≡ true → worth_fro
 unfolding are_digits worth_from
 worth_below v [] e = omega (arith, pow-zero 10)
 worth_below v (b ∷ bs) e =
-    let w = and_left (within 48 57 b) (are_digits bs) e in
+    let w = first_so (within 48 57 b) (are_digits bs) e in
     let d : b - 48 ≤ 9 = omega (arith, within_high 48 57 b w) in
     rw (pow-suc 10 (length bs))
     (below_more v (b - 48) (10 ^ length bs) (worth_from (v * 10 + (b - 48)) bs) d
-    (worth_below (v * 10 + (b - 48)) bs (and_right (within 48 57 b) (are_digits bs) e)))
+    (worth_below (v * 10 + (b - 48)) bs (second_so (within 48 57 b) (are_digits bs) e)))
 
-pub worth_few : (s : List ℕ) (at i : ℕ) → i < at + 11 → are_digits (take (i - at) (drop at s)) ≡ true →
-    worth (take (i - at) (drop at s)) < 10000000000
+pub worth_few : (s : List ℕ) (at i : ℕ) → i < 11 → are_digits (take i (drop at s)) ≡ true →
+    worth (take i (drop at s)) < 10000000000
 worth_few s at i h e =
-    let bs = take (i - at) (drop at s) in
-    let m : length bs ≤ 10 = omega (arith, length-take (i - at) (drop at s)) in
+    let bs = take i (drop at s) in
+    let m : length bs ≤ 10 = omega (arith, length-take i (drop at s)) in
     omega (arith, worth_below 0 bs e, pow-le-pow_right {n = 10} (lit< tt) m)
+
+-- the first i bytes from `at` on are all the digits there
+pub digits_from : (s : List ℕ) (at i stop v : ℕ) → at + i ≤ stop → are_digits (take i (drop at s)) ≡ true →
+    v ≡ worth (take i (drop at s)) → (at + i < stop → within 48 57 (get_or s (at + i) 0) ≡ false) →
+    DigitsFrom s at stop (record { worth = v; end = at + i })
+digits_from s at i stop v h d w f =
+    let e : at + i - at ≡ i = omega arith in
+    record { low = omega arith; high = h; digits = rw e d; worths = rw e w; ends = f }
 
 -- a field of digits alone, by their worth, how many they are and the first of them
 digits_read : (f : List ℕ) → are_digits f ≡ true → length f ≤ 11 →
@@ -106,7 +106,7 @@ first_asked v (suc k) a b h = ap (as_number v (suc k)) (h (omega arith))
 longer_not : (l : List ℕ) (k m : ℕ) → k < m → m ≤ length l → (k < 11 → within 48 57 (get_or l k 0) ≡ false) →
     is_number (take m l) ≡ false
 longer_not l k m h g f =
-    is_false
+    false_from_ne_true
     (is_number (take m l))
     (λ p. elim (le_or_lt 11 k) [
       | inl q ↦ omega (arith, number_long (take m l) p, length-take-le m l g)

@@ -4,8 +4,11 @@
 -- which it parts them, and a text comes back from its parts. Assumes nothing.
 use Rattle.std.proofs.Common.{◌≡◌, ℕ, zero, suc, ◌+◌, ◌-◌, ◌*◌, ◌<◌, ◌≤◌, Bool, true, false, not, ◌&&◌, eqb, leb, List, [], ◌∷◌, ◌++◌, length, get_or, take, drop, sym, refl, ap, ◌∙◌, append_assoc, add-one, arith, length-append, length-drop, drop_of_length-le, drop-cons, drop-drop, eq-eqb, ne_eqb, eqb-true, le-leb, leb-true}
 use lib.Seq.{take-length}
+use lib.Pointwise.{pointwise}
 use borrow.Author.Tests.{not-true}
-use Rattle.laws.proofs.Choice.{clash, and_true, and_left, and_right, within_low}
+use Rattle.std.proofs.lemmas.Bool.{and_from}
+use Rattle.std.specs.Cmp.{first_so, second_so}
+use Rattle.laws.proofs.Choice.{clash, within_low}
 use Rattle.laws.specs.Choice.{within}
 use Rattle.decimal.proofs.Numbers.{are_digits_lem, number_is_digits}
 use Rattle.decimal.specs.Lines.{to_first, split, line_feed, join, closed, same, index_of, slice}
@@ -106,23 +109,23 @@ pub split_part : (b : ℕ) (p r : List ℕ) → lacks b p ≡ true → split b (
 unfolding lacks
 split_part b [] r h = split_here b b r (eq-eqb b b refl)
 split_part b (x ∷ p) r h =
-    split_on b x (p ++ (b ∷ r)) (not-true (eqb x b) (and_left (not (eqb x b)) (lacks b p) h)) ∙
-    ap (to_first x) (split_part b p r (and_right (not (eqb x b)) (lacks b p) h))
+    split_on b x (p ++ (b ∷ r)) (not-true (eqb x b) (first_so (not (eqb x b)) (lacks b p) h)) ∙
+    ap (to_first x) (split_part b p r (second_so (not (eqb x b)) (lacks b p) h))
 
 pub split_whole : (b : ℕ) (p : List ℕ) → lacks b p ≡ true → split b p ≡ p ∷ []
 unfolding lacks split
 split_whole b [] h = refl
 split_whole b (x ∷ p) h =
-    split_on b x p (not-true (eqb x b) (and_left (not (eqb x b)) (lacks b p) h)) ∙
-    ap (to_first x) (split_whole b p (and_right (not (eqb x b)) (lacks b p) h))
+    split_on b x p (not-true (eqb x b) (first_so (not (eqb x b)) (lacks b p) h)) ∙
+    ap (to_first x) (split_whole b p (second_so (not (eqb x b)) (lacks b p) h))
 
 pub split_joined : (b : ℕ) (ps : List (List ℕ)) → 0 < length ps → all_lack b ps ≡ true → split b (join b ps) ≡ ps
 unfolding join all_lack
 split_joined b [] h a = absurd (omega arith)
-split_joined b (p ∷ []) h a = split_whole b p (and_left (lacks b p) true a)
+split_joined b (p ∷ []) h a = split_whole b p (first_so (lacks b p) true a)
 split_joined b (p ∷ (q ∷ ps)) h a =
-    split_part b p (join b (q ∷ ps)) (and_left (lacks b p) (all_lack b (q ∷ ps)) a) ∙
-    ap (λ r. p ∷ r) (split_joined b (q ∷ ps) (omega arith) (and_right (lacks b p) (all_lack b (q ∷ ps)) a))
+    split_part b p (join b (q ∷ ps)) (first_so (lacks b p) (all_lack b (q ∷ ps)) a) ∙
+    ap (λ r. p ∷ r) (split_joined b (q ∷ ps) (omega arith) (second_so (lacks b p) (all_lack b (q ∷ ps)) a))
 
 join_none : (b : ℕ) (ps : List (List ℕ)) → 0 < length ps → join b ([] ∷ ps) ≡ b ∷ join b ps
 unfolding join
@@ -149,8 +152,8 @@ pub split_closed : (ls : List (List ℕ)) → all_lack line_feed ls ≡ true →
 unfolding closed all_lack split
 split_closed [] a = refl
 split_closed (l ∷ ls) a =
-    split_part line_feed l (closed ls) (and_left (lacks line_feed l) (all_lack line_feed ls) a) ∙
-    ap (λ r. l ∷ r) (split_closed ls (and_right (lacks line_feed l) (all_lack line_feed ls) a))
+    split_part line_feed l (closed ls) (first_so (lacks line_feed l) (all_lack line_feed ls) a) ∙
+    ap (λ r. l ∷ r) (split_closed ls (second_so (lacks line_feed l) (all_lack line_feed ls) a))
 
 pub closed_append : (ks ls : List (List ℕ)) → closed (ks ++ ls) ≡ closed ks ++ closed ls
 unfolding closed
@@ -170,36 +173,36 @@ closed_split t ls e = sym (join_closed ls) ∙ ap (join line_feed) (sym e) ∙ j
 pub high_at : (bs : List ℕ) (j : ℕ) → high bs ≡ true → j < length bs → 48 ≤ get_or bs j 0
 unfolding high
 high_at [] j e h = absurd (omega arith)
-high_at (b ∷ bs) zero e h = leb-true 48 b (and_left (leb 48 b) (high bs) e)
-high_at (b ∷ bs) (suc j) e h = high_at bs j (and_right (leb 48 b) (high bs) e) (omega arith)
+high_at (b ∷ bs) zero e h = leb-true 48 b (first_so (leb 48 b) (high bs) e)
+high_at (b ∷ bs) (suc j) e h = high_at bs j (second_so (leb 48 b) (high bs) e) (omega arith)
 
 -- what is high lacks a tab and a line feed
 pub high_lacks : (c : ℕ) (bs : List ℕ) → c < 48 → high bs ≡ true → lacks c bs ≡ true
 unfolding high lacks
 high_lacks c [] h e = refl
 high_lacks c (b ∷ bs) h e =
-    let l : 48 ≤ b = leb-true 48 b (and_left (leb 48 b) (high bs) e) in
-    rw (ne_eqb b c (λ q. omega arith)) (high_lacks c bs h (and_right (leb 48 b) (high bs) e))
+    let l : 48 ≤ b = leb-true 48 b (first_so (leb 48 b) (high bs) e) in
+    rw (ne_eqb b c (λ q. omega arith)) (high_lacks c bs h (second_so (leb 48 b) (high bs) e))
 
 pub all_high_lack : (c : ℕ) (ps : List (List ℕ)) → c < 48 → all_high ps ≡ true → all_lack c ps ≡ true
 unfolding all_high all_lack
 all_high_lack c [] h e = refl
 all_high_lack c (p ∷ ps) h e =
-    and_true
+    and_from
     (lacks c p)
     (all_lack c ps)
-    (high_lacks c p h (and_left (high p) (all_high ps) e))
-    (all_high_lack c ps h (and_right (high p) (all_high ps) e))
+    (high_lacks c p h (first_so (high p) (all_high ps) e))
+    (all_high_lack c ps h (second_so (high p) (all_high ps) e))
 
 digits_are_high : (bs : List ℕ) → are_digits bs ≡ true → high bs ≡ true
 unfolding are_digits high
 digits_are_high [] e = refl
 digits_are_high (b ∷ bs) e =
-    and_true
+    and_from
     (leb 48 b)
     (high bs)
-    (le-leb 48 b (within_low 48 57 b (and_left (within 48 57 b) (are_digits bs) e)))
-    (digits_are_high bs (and_right (within 48 57 b) (are_digits bs) e))
+    (le-leb 48 b (within_low 48 57 b (first_so (within 48 57 b) (are_digits bs) e)))
+    (digits_are_high bs (second_so (within 48 57 b) (are_digits bs) e))
 
 pub high_digits : (n : ℕ) → high (digits n) ≡ true
 high_digits n = digits_are_high (digits n) (are_digits_lem n)
@@ -212,24 +215,24 @@ lacks_append : (c : ℕ) (xs ys : List ℕ) → lacks c xs ≡ true → lacks c 
 unfolding lacks
 lacks_append c [] ys p q = q
 lacks_append c (x ∷ xs) ys p q =
-    and_true
+    and_from
     (not (eqb x c))
     (lacks c (xs ++ ys))
-    (and_left (not (eqb x c)) (lacks c xs) p)
-    (lacks_append c xs ys (and_right (not (eqb x c)) (lacks c xs) p) q)
+    (first_so (not (eqb x c)) (lacks c xs) p)
+    (lacks_append c xs ys (second_so (not (eqb x c)) (lacks c xs) p) q)
 
 -- so does a line of fields that lack it, if another byte parts them
 pub join_lacks : (c b : ℕ) (ps : List (List ℕ)) → eqb b c ≡ false → all_lack c ps ≡ true → lacks c (join b ps) ≡ true
 unfolding join all_lack lacks
 join_lacks c b [] h a = refl
-join_lacks c b (p ∷ []) h a = and_left (lacks c p) true a
+join_lacks c b (p ∷ []) h a = first_so (lacks c p) true a
 join_lacks c b (p ∷ (q ∷ ps)) h a =
     lacks_append
     c
     p
     (b ∷ join b (q ∷ ps))
-    (and_left (lacks c p) (all_lack c (q ∷ ps)) a)
-    (rw h (join_lacks c b (q ∷ ps) h (and_right (lacks c p) (all_lack c (q ∷ ps)) a)))
+    (first_so (lacks c p) (all_lack c (q ∷ ps)) a)
+    (rw h (join_lacks c b (q ∷ ps) h (second_so (lacks c p) (all_lack c (q ∷ ps)) a)))
 
 -- how long a text is of which no part is longer than m
 abbrev pub AllUpTo : ℕ → List (List ℕ) → Type 0
@@ -256,14 +259,13 @@ same_eq [] [] e = refl
 same_eq [] (y ∷ w) e = absurd (clash false e refl)
 same_eq (x ∷ v) [] e = absurd (clash false e refl)
 same_eq (x ∷ v) (y ∷ w) e =
-    rw (eqb-true x y (and_left (eqb x y) (same v w) e), same_eq v w (and_right (eqb x y) (same v w) e))
+    rw (eqb-true x y (first_so (eqb x y) (same v w) e), same_eq v w (second_so (eqb x y) (same v w) e))
 
 pub same_self : (v : List ℕ) → same v v ≡ true
 unfolding same
 same_self [] = refl
 same_self (x ∷ v) = rw (eq-eqb x x refl) (same_self v)
 
--- and a loop at byte i has yet to compare the bytes from i on
 pub same_long : (a b : List ℕ) → (length a ≡ length b → ⊥) → same a b ≡ false
 unfolding same
 same_long [] [] h = absurd (h refl)
@@ -275,20 +277,13 @@ same_long (x ∷ xs) (y ∷ ys) h = go (eqb x y) (same_long xs ys (λ e. h (ap s
     go true e = e
     go false e = refl
 
-pub same_next : (a b : List ℕ) (i : ℕ) → i < length a → i < length b → get_or a i 0 ≡ get_or b i 0 →
-    same (drop i a) (drop i b) ≡ same (drop (i + 1) a) (drop (i + 1) b)
+-- and as std compares two slices
+pub same_is : (a b : List ℕ) → pointwise eqb a b ≡ same a b
 unfolding same
-same_next a b i h k e =
-    rw (add-one i, drop-cons a i 0 h, drop-cons b i 0 k, eq-eqb (get_or a i 0) (get_or b i 0) e)
-
-pub same_not : (a b : List ℕ) (i : ℕ) → i < length a → i < length b → (get_or a i 0 ≡ get_or b i 0 → ⊥) →
-    same (drop i a) (drop i b) ≡ false
-unfolding same
-same_not a b i h k e = rw (drop-cons a i 0 h, drop-cons b i 0 k, ne_eqb (get_or a i 0) (get_or b i 0) e)
-
-pub same_done : (a b : List ℕ) (i : ℕ) → length a ≤ i → length b ≤ i → same (drop i a) (drop i b) ≡ true
-unfolding same
-same_done a b i h k = rw (drop_of_length-le a h, drop_of_length-le b k)
+same_is [] [] = refl
+same_is [] (y ∷ ys) = refl
+same_is (x ∷ xs) [] = refl
+same_is (x ∷ xs) (y ∷ ys) = ap (λ t. eqb x y && t) (same_is xs ys)
 
 -- A search finds the byte at the place where it begins, or goes on from the next place.
 pub find_here : (b : ℕ) (l : List ℕ) (i : ℕ) → i < length l → get_or l i 0 ≡ b →

@@ -6,7 +6,9 @@ use lib.ListN.{get_or-append}
 use lib.Arith.{lt_of_le-ne}
 use borrow.Author.Tests.{eqb-false, not-true}
 use Rattle.laws.specs.Choice.{within, every}
-use Rattle.laws.proofs.Choice.{and_left, and_right, within_low, within_high, every_at, and_true, or_cases, is_within, le_or_lt}
+use Rattle.std.specs.Cmp.{first_so, second_so}
+use Rattle.std.proofs.lemmas.Bool.{and_from, or_cases}
+use Rattle.laws.proofs.Choice.{within_low, within_high, every_at, is_within, le_or_lt}
 use Rattle.decimal.specs.Number.{are_digits, leads_well, number_form, is_number, worth_from, worth, digits_in, digits}
 
 -- digits
@@ -14,8 +16,8 @@ pub digit_at : (s : List ℕ) (i : ℕ) → are_digits s ≡ true → i < length
 unfolding are_digits
 digit_at [] i e h = absurd (omega arith)
 digit_at (b ∷ bs) zero e h =
-    let w = and_left (within 48 57 b) (are_digits bs) e in (within_low 48 57 b w, within_high 48 57 b w)
-digit_at (b ∷ bs) (suc i) e h = digit_at bs i (and_right (within 48 57 b) (are_digits bs) e) (omega arith)
+    let w = first_so (within 48 57 b) (are_digits bs) e in (within_low 48 57 b w, within_high 48 57 b w)
+digit_at (b ∷ bs) (suc i) e h = digit_at bs i (second_so (within 48 57 b) (are_digits bs) e) (omega arith)
 
 -- what the form of a number says
 pub number_long : (s : List ℕ) → is_number s ≡ true → length s ≤ 11
@@ -100,15 +102,15 @@ pub digits_append : (bs cs : List ℕ) → are_digits bs ≡ true → are_digits
 unfolding are_digits
 digits_append [] cs p q = q
 digits_append (b ∷ bs) cs p q =
-    and_true
+    and_from
     (within 48 57 b)
     (are_digits (bs ++ cs))
-    (and_left (within 48 57 b) (are_digits bs) p)
-    (digits_append bs cs (and_right (within 48 57 b) (are_digits bs) p) q)
+    (first_so (within 48 57 b) (are_digits bs) p)
+    (digits_append bs cs (second_so (within 48 57 b) (are_digits bs) p) q)
 
 one_digit : (d : ℕ) → d < 10 → are_digits ((48 + d) ∷ []) ≡ true
 unfolding are_digits
-one_digit d h = and_true (within 48 57 (48 + d)) true (is_within 48 57 (48 + d) (omega arith) (omega arith)) refl
+one_digit d h = and_from (within 48 57 (48 + d)) true (is_within 48 57 (48 + d) (omega arith) (omega arith)) refl
 
 pub are_digits_lem : (n : ℕ) → are_digits (digits n) ≡ true
 are_digits_lem =
@@ -158,11 +160,11 @@ digits_from : (v : ℕ) (bs : List ℕ) → 0 < v → are_digits bs ≡ true →
 unfolding are_digits worth_from
 digits_from v [] h e = sym (append-nil (digits v))
 digits_from v (b ∷ bs) h e =
-    let w = and_left (within 48 57 b) (are_digits bs) e in
+    let w = first_so (within 48 57 b) (are_digits bs) e in
     let l : 48 ≤ b = within_low 48 57 b w in
     let u : b ≤ 57 = within_high 48 57 b w in
     let q : 48 + (b - 48) ≡ b = omega arith in
-    digits_from (v * 10 + (b - 48)) bs (omega arith) (and_right (within 48 57 b) (are_digits bs) e) ∙
+    digits_from (v * 10 + (b - 48)) bs (omega arith) (second_so (within 48 57 b) (are_digits bs) e) ∙
     rw (digits_more v (b - 48) h (omega arith), q, append_assoc (digits v) (b ∷ []) bs)
 
 -- the first digit, and the digits after it
@@ -172,7 +174,7 @@ unfolding are_digits worth_from
 from_first b bs a s = go s
   where
     w : within 48 57 b ≡ true
-    w = and_left (within 48 57 b) (are_digits bs) a
+    w = first_so (within 48 57 b) (are_digits bs) a
 
     l : 48 ≤ b
     l = within_low 48 57 b w
@@ -184,7 +186,7 @@ from_first b bs a s = go s
     one = let q : 48 + (b - 48) ≡ b = omega (arith, l) in rw (digits_one (b - 48) (omega (arith, l, u)), q)
 
     rest : are_digits bs ≡ true
-    rest = and_right (within 48 57 b) (are_digits bs) a
+    rest = second_so (within 48 57 b) (are_digits bs) a
 
     z : 0 * 10 + (b - 48) ≡ b - 48
     z = omega arith

@@ -11,8 +11,6 @@ ghost use Rattle.decimal.specs.Lines.{same, index_of, slice};
 ghost use Rattle.decimal.specs.Inner.Fields.{field_end, field_from};
 ghost use Rattle.decimal.specs.Inner.{Digit, DigitsFrom, as_number};
 
-use std::num::wrapping_sub_u64;
-
 pub const TAB: u8 = 9;
 
 pub const LINE_FEED: u8 = 10;
@@ -28,6 +26,7 @@ struct Digits {
 }
 
 // Where a field ends, and whether a tab stands there: then another field follows.
+// Kept: both always say something: a field that ends with its line has a place too.
 #[derive(Clone, Copy)]
 pub struct End {
     pub at: usize,
@@ -41,74 +40,70 @@ pub struct Field {
     pub end: End,
 }
 
+// Kept: document 01 hands the field readers a text from its middle (digits_at .. find: text, at).
+
 // A byte less 48, going round: at most 9, and then its worth, exactly if it is a digit.
 fn digit(b: u8) -> u64
     ensures { Digit b result }
 {
-    wrapping_sub_u64(b as u64, 48)
+    (b as u64).wrapping_sub(48)
 }
 
 // Where the digits from a place on end, and what they are worth, come out of one walk. At most 11
-// are walked: no product and no sum is past what 64 bits hold.
-fn digits_up_to(s: &[u8], at: usize, stop: usize) -> Digits
-    requires { (at ≤ stop) × (stop ≤ at + 11) × (stop ≤ length s.now) }
-    ensures { DigitsFrom s.now at stop result }
-{
-    let mut worth: u64 = 0;
-    let mut i = at;
-    while i < stop {
-        let d = digit(s[i]);
-        if 9 < d {
-            return Digits { worth, end: i };
-        }
-        worth = worth * 10 + d;
-        i += 1;
-    }
-    Digits { worth, end: i }
-}
-
-// A 12th digit is not walked, and ends them as any other byte does.
+// are walked: no product and no sum is past what 64 bits hold, and a 12th digit ends them as any
+// other byte does.
 fn digits_at(s: &[u8], at: usize) -> Digits
     requires { at ≤ length s.now }
     ensures { DigitsFrom s.now at (min (at + 11) (length s.now)) result }
 {
-    if LONGEST_NUMBER < s.len() - at {
-        return digits_up_to(s, at, at + LONGEST_NUMBER);
+    let stop = at + LONGEST_NUMBER.min(s.len() - at);
+    let mut worth: u64 = 0;
+    for (i, b) in s[at..stop].iter().enumerate() {
+        let d = digit(*b);
+        if 9 < d {
+            return Digits { worth, end: at + i };
+        }
+        worth = worth * 10 + d;
     }
-    digits_up_to(s, at, s.len())
+    Digits { worth, end: stop }
 }
 
 // Where the field ends that begins at a place of a text.
 pub fn field_end(text: &[u8], at: usize) -> End
     ensures { result ≡ field_end text.now at }
 {
-    let mut i = at;
-    while i < text.len() {
-        if text[i] == TAB {
-            return End { at: i, more: true };
-        }
-        if text[i] == LINE_FEED {
-            return End { at: i, more: false };
-        }
-        i += 1;
+    if text.len() <= at {
+        return End { at, more: false };
     }
-    End { at: i, more: false }
+    for (i, b) in text[at..].iter().enumerate() {
+        if *b == TAB {
+            return End {
+                at: at + i,
+                more: true,
+            };
+        }
+        if *b == LINE_FEED {
+            return End {
+                at: at + i,
+                more: false,
+            };
+        }
+    }
+    End {
+        at: text.len(),
+        more: false,
+    }
 }
 
 // What so many digits are, by their worth and the first of them. "no leading zero but in `0`"
+// Kept: std's parse takes a sign and leading zeros.
 fn as_number(worth: u64, many: usize, first: u8) -> Option<u64>
     ensures { result ≡ as_number worth many first }
 {
-    if many == 0 {
+    if many == 0 || first == b'0' && many != 1 {
         return None;
     }
-    if first != b'0' {
-        return Some(worth);
-    }
-    if many == 1 {
-        return Some(worth);
-    }
-    None
+    Some(worth)
 }
 
 // That field, read as a number. Its digits are walked once; what stands after them, if anything
@@ -117,8 +112,10 @@ pub fn read_field(text: &[u8], at: usize) -> Field
     ensures { result ≡ field_from text.now at }
 {
     if text.len() <= at {
-        let end = End { at, more: false };
-        return Field { number: None, end };
+        return Field {
+            number: None,
+            end: End { at, more: false },
+        };
     }
     let d = digits_at(text, at);
     let end = field_end(text, d.end);
@@ -143,15 +140,7 @@ pub fn read_number(s: &[u8]) -> Option<u64>
 pub fn is_same(a: &[u8], b: &[u8]) -> bool
     ensures { result ≡ same a.now b.now }
 {
-    if a.len() != b.len() {
-        return false;
-    }
-    for i in 0..a.len() {
-        if a[i] != b[i] {
-            return false;
-        }
-    }
-    true
+    a == b
 }
 
 // Where the first byte b from a place of a text on stands, or its end where there is none; past the
@@ -163,9 +152,9 @@ pub fn find(text: &[u8], at: usize, b: u8) -> usize
     if text.len() <= at {
         return at;
     }
-    for i in at..text.len() {
-        if text[i] == b {
-            return i;
+    for (i, x) in text[at..].iter().enumerate() {
+        if *x == b {
+            return at + i;
         }
     }
     text.len()

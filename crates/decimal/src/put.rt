@@ -2,6 +2,9 @@
 // nothing else of the room changes. Each answers where the next byte goes: a place past the end of
 // the room says that something was left out. (specs/Room.antt.)
 
+// Kept: put_byte, put_all and put_number are public: the room and the place stay two parameters.
+// Kept: crate printer has its own, which do not test each byte for room (docs/SPEED.md).
+
 ghost use Rattle.std.specs.Prelude.{◌≡◌, [], ◌∷◌};
 ghost use Rattle.decimal.specs.Number.{digits};
 ghost use Rattle.decimal.specs.Room.{Put, spelled};
@@ -26,14 +29,15 @@ pub fn put_all(text: &[u8], room: &mut [u8], at: usize) -> usize
     ensures { Put text.now room.old at room.new result }
 {
     let mut k = at;
-    for i in 0..text.len() {
-        k = put_byte(text[i], room, k);
+    for b in text {
+        k = put_byte(*b, room, k);
     }
     k
 }
 
-// "Numbers are decimal": the last digit stands after those of the tenth part, so they are found from
-// the last one on, and stand at the end of the lent text. Answers where the first one does.
+// "Numbers are decimal": the last digit stands after those of the tenth part, so they are found
+// from the last one on, and stand at the end of the lent text. Answers where the first one does.
+// Kept: the places count down as the number is divided, and no list is walked.
 pub fn spell(n: u64, text: &mut [u8; MOST_DIGITS]) -> usize
     ensures { record { text = text.exit.now; first = result } ≡ spelled n text.entry.now }
 {
@@ -49,6 +53,7 @@ pub fn spell(n: u64, text: &mut [u8; MOST_DIGITS]) -> usize
     first
 }
 
+// Kept: no heap here, and a Display cannot leave out what lacks room, as Put says.
 pub fn put_number(n: u64, room: &mut [u8], at: usize) -> usize
     ensures { Put (digits n) room.old at room.new result }
 {

@@ -9,7 +9,8 @@ use native.Mathlib.Omega.{arith}
 use lib.Dec.{eqb}
 use borrow.Author.Tests.{eqb-true, eqb-false, eq-eqb}
 use Rattle.laws.specs.Rows.{sum_below}
-use Rattle.laws.proofs.Choice.{clash, if_ind, true_or_false}
+use Rattle.std.proofs.lemmas.Bool.{cases_Bool}
+use Rattle.laws.proofs.Choice.{clash, if_ind}
 use Rattle.laws.proofs.Rows.{sum_zero}
 use Rattle.events.specs.declared.Turn.{Turn}
 use Rattle.events.specs.declared.Turn.TheVariants.{Run as Ran, Empty, Idle}
@@ -22,7 +23,7 @@ pub one_past_lem : (j k : ℕ) → (j ≡ k → ⊥) → one j k ≡ 0
 one_past_lem j k n = if_ind (λ (n : ℕ). n ≡ 0) (eqb j k) (λ q. absurd (n (eqb-true j k q))) (λ q. refl)
 
 pub same_or_not : (j k : ℕ) → (j ≡ k) ⊎ (j ≡ k → ⊥)
-same_or_not j k = elim (true_or_false (eqb j k)) [ inl e ↦ inl (eqb-true j k e) | inr e ↦ inr (eqb-false j k e) ]
+same_or_not j k = elim (cases_Bool (eqb j k)) [ inl e ↦ inl (eqb-true j k e) | inr e ↦ inr (eqb-false j k e) ]
 
 -- row k alone counts 1
 pub sum_one : (k n : ℕ) → k < n → sum_below n (one k) ≡ 1

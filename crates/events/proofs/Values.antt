@@ -10,7 +10,7 @@ use native.Mathlib.Nat.{add-zero, mul-zero}
 use lib.Dec.{leb}
 use lib.ListN.{length, get_or, take, drop, length-append, take-append-drop}
 use lib.Seq.{get_or-drop, drop-append_seam, drop-append-add, paste, take-paste, drop-paste, length-paste, take_all, drop-drop}
-use borrow.Author.Tests.{le-leb, lt-leb, leb-true}
+use borrow.Author.Tests.{le-leb, leb-true}
 use Rattle.laws.proofs.Choice.{if_ind}
 use Rattle.units.specs.declared.Ticks.{Ticks}
 use Rattle.table.specs.declared.Mode.{Mode}
@@ -33,12 +33,6 @@ pub line_length : (l : Option Event) → length (line_values l) ≡ 2
 line_length None = refl
 line_length (Some (Tick mark)) = refl
 line_length (Some (Release k)) = refl
-
-pub line_said_lem : (l : Option Event) → line_said (get_or (line_values l) 0 0) (get_or (line_values l) 1 0) ≡ l
-line_said_lem None = refl
-line_said_lem (Some (Tick true)) = refl
-line_said_lem (Some (Tick false)) = refl
-line_said_lem (Some (Release k)) = refl
 
 -- The numbers of some lines, and other numbers behind them.
 line_past : (l : Option Event) (ys : List ℕ) → lines_said (line_values l ++ ys) ≡ l ∷ lines_said ys
@@ -195,11 +189,6 @@ told_listed a m ws ls e f g =
     (ap (λ xs. 2 ∷ a.tick.0 ∷ mode_value a.mode ∷ xs)
     (turn_listed a.turn _ ∙ ap (λ xs. turn_values a.turn ++ xs) (left_listed a.left (a.discarded ∷ []))))
 
-pub release_said : (x v : ℕ) → (x ≡ 0 → ⊥) → (x ≡ 1 → ⊥) → Some (Release v) ≡ line_said x v
-release_said zero v h g = absurd (h refl)
-release_said (suc zero) v h g = absurd (g refl)
-release_said (suc (suc x)) v h g = refl
-
 -- The lines that are left, of two numbers each.
 pub lines_left : (vs : List ℕ) (i : ℕ) → i < length (lines_said vs) →
     drop i (lines_said vs) ≡ line_said (get_or vs (2 * i) 0) (get_or vs (2 * i + 1) 0) ∷ drop (i + 1) (lines_said vs)
@@ -251,9 +240,6 @@ laid_end w all rest room left n e g =
 pub told_put_lem : (room : List ℕ) (at : ℕ) (x : Told) → at + 9 ≤ length room →
     told_put room at x ≡ paste room at (told_values x) 9
 told_put_lem room at x h = rw (le-leb (at + 9) (length room) h)
-
-pub told_left : (room : List ℕ) (at : ℕ) (x : Told) → length room < at + 9 → room ≡ told_put room at x
-told_left room at x h = rw (lt-leb (at + 9) (length room) h)
 
 pub told_put_length : (room : List ℕ) (at : ℕ) (x : Told) → length (told_put room at x) ≡ length room
 told_put_length room at x =

@@ -1,5 +1,5 @@
-// Events, and what is answered to them: the same for every box, whatever it holds. (01, What one tick
-// does; One night in full.)
+// Events, and what is answered to them: the same for every box, whatever it holds. (01, What one
+// tick does; One night in full.)
 
 #![tactic(auto)]
 
@@ -19,6 +19,7 @@ pub enum Turn {
 }
 
 // The job that left, by its task, and how.
+// Kept: the three cases of the answer line; Option<(usize, bool)> would name neither done nor cut.
 #[derive(Clone, Copy)]
 pub enum Left {
     Nobody,
@@ -44,6 +45,7 @@ pub enum Event {
 }
 
 // What is answered to an event.
+// Kept: three cases, each told on a line of its own; as a Result they would be two enums.
 #[derive(Clone, Copy)]
 pub enum Answer {
     Released(usize),
@@ -52,6 +54,7 @@ pub enum Answer {
 }
 
 // What is handed back for a start, with the run of whatever box it is.
+// Kept: Begun, Answered, Many: the run comes back beside a refusal too, as it was (01).
 #[derive(Clone, Copy)]
 pub struct Begun<R> {
     pub answer: Result<(), Refusal>,
@@ -74,6 +77,7 @@ pub struct Many<R> {
 }
 
 // What an answer tells: the paper's number for no, or the answer itself.
+// Kept: Told is public, and any number may stand for no, not only a Refusal's (told_said).
 #[derive(Clone, Copy)]
 pub enum Told {
     No(u64),
@@ -83,38 +87,24 @@ pub enum Told {
 
 // Event lines and what is told to them, as plain numbers, so that many can be lent at once: so many
 // numbers each. Which they are is in specs/Values.antt.
+// Kept: lent rooms hold plain numbers, two a line and nine an answer (docs/DECISIONS.md, Ours).
 pub const LINE_VALUES: usize = 2;
 
 pub const TOLD_VALUES: usize = 9;
-
-// Where they stand, of a tick that is taken: its mode, what it says and of which server, how a job
-// left and of which task, and how many were discarded.
-pub const TOLD_MODE: usize = 2;
-
-pub const TOLD_WHAT: usize = 3;
-
-pub const TOLD_SERVER: usize = 4;
-
-pub const TOLD_HOW: usize = 6;
-
-pub const TOLD_TASK: usize = 7;
-
-pub const TOLD_DISCARDED: usize = 8;
 
 // What an event line says by its two numbers: its event, or none where it is another line.
 pub fn line_said(x: u64, v: u64) -> Option<Event>
     ensures { result ≡ line_said x v }
 {
-    if x == 0 {
-        return None;
+    match x {
+        0 => None,
+        1 => Some(Event::Tick(v != 0)),
+        _ => Some(Event::Release(v as usize)),
     }
-    if x == 1 {
-        return Some(Event::Tick(v != 0));
-    }
-    Some(Event::Release(v as usize))
 }
 
 // What an answer tells.
+// Kept: told_of, line_said and told_values are promised by these names.
 pub fn told_of(a: Answer) -> Told
     ensures { result ≡ told_of a }
 {
@@ -146,6 +136,7 @@ fn left_values(left: Left) -> [u64; 2]
 }
 
 // What is told, as nine numbers.
+#[tactic(auto, unfolding(crate::specs::Values::told_values))]
 pub fn told_values(x: Told) -> [u64; TOLD_VALUES]
     ensures { result ≡ told_values x }
 {
@@ -153,49 +144,31 @@ pub fn told_values(x: Told) -> [u64; TOLD_VALUES]
         Told::No(number) => [0, number, 0, 0, 0, 0, 0, 0, 0],
         Told::Released(k) => [1, k as u64, 0, 0, 0, 0, 0, 0, 0],
         Told::Ticked(a) => {
-            let tick = a.tick;
-            let mode = a.mode;
-            let turn = a.turn;
-            let left = a.left;
-            let m = table::mode_value(mode);
-            let w = turn_values(turn);
-            let l = left_values(left);
+            let mode = table::mode_value(a.mode);
+            let [what, server, task] = turn_values(a.turn);
+            let [how, of] = left_values(a.left);
             [
                 2,
-                tick.0 as u64,
-                m,
-                w[0],
-                w[1],
-                w[2],
-                l[0],
-                l[1],
+                a.tick.0 as u64,
+                mode,
+                what,
+                server,
+                task,
+                how,
+                of,
                 a.discarded as u64,
             ]
         }
     }
 }
 
-// Nine numbers written into the room from place `at` on.
-fn store_values(values: &[u64; TOLD_VALUES], room: &mut [u64], at: usize)
-    requires { (length values.now ≡ 9) × (at + 9 ≤ length room.old) }
-    ensures { room.new ≡ paste room.old at values.now 9 }
-{
-    for j in 0..TOLD_VALUES {
-        room[at + j] = values[j];
-    }
-}
-
-// The nine numbers of what is told, written into the room from place `at` on, where it has that many
-// places there; else the room stays as it was.
+// The nine numbers of what is told, written into the room from place `at` on, where it has that
+// many places there; else the room stays as it was.
+// Kept: put_told is public (docs/FUNCTIONS.md): the room and the place stay two parameters.
 pub fn put_told(x: Told, room: &mut [u64], at: usize)
     ensures { room.new ≡ told_put room.old at x }
 {
-    if room.len() < TOLD_VALUES {
-        return;
+    if TOLD_VALUES <= room.len() && at <= room.len() - TOLD_VALUES {
+        room[at..at + TOLD_VALUES].copy_from_slice(&told_values(x));
     }
-    if room.len() - TOLD_VALUES < at {
-        return;
-    }
-    let values = told_values(x);
-    store_values(&values, room, at);
 }

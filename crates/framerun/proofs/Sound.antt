@@ -8,7 +8,9 @@ use mathlib.Core.Logic.{inl, inr, ◌↔◌}
 use Prim.Native.Nat.{ℕ, ◌<◌}
 use Rattle.laws.specs.Choice.{every}
 use Rattle.laws.specs.Rows.{all_below}
-use Rattle.laws.proofs.Choice.{clash, true_or_false, and_true, and_left, and_right, every_at}
+use Rattle.std.proofs.lemmas.Bool.{cases_Bool, and_from}
+use Rattle.std.specs.Cmp.{first_so, second_so}
+use Rattle.laws.proofs.Choice.{clash, every_at}
 use Rattle.laws.proofs.Rows.{all_at, all_build}
 use Rattle.queues.specs.Queues.{is_last}
 use Rattle.queues.specs.Sound.{last_sound, counts_sound}
@@ -66,18 +68,18 @@ state_tests t s f =
 -- A run is sound exactly if its table keeps the rules and its state the clauses.
 pub sound_table : (r : FrameRun) → frame_sound r ≡ true → frame_table_keeps r.table ≡ true
 unfolding frame_sound
-sound_table r e = and_left (frame_table_keeps r.table) (sound_state r.table r.state) e
+sound_table r e = first_so (frame_table_keeps r.table) (sound_state r.table r.state) e
 
 pub sound_state_lem : (r : FrameRun) → frame_sound r ≡ true → StateSound r.table r.state
 unfolding frame_sound
 sound_state_lem r e =
-    state_facts r.table r.state (and_right (frame_table_keeps r.table) (sound_state r.table r.state) e)
+    state_facts r.table r.state (second_so (frame_table_keeps r.table) (sound_state r.table r.state) e)
 
 pub sound_build : (r : FrameRun) → frame_table_keeps r.table ≡ true → StateSound r.table r.state →
     frame_sound r ≡ true
 unfolding frame_sound
 sound_build r e f =
-    and_true (frame_table_keeps r.table) (sound_state r.table r.state) e (state_tests r.table r.state f)
+    and_from (frame_table_keeps r.table) (sound_state r.table r.state) e (state_tests r.table r.state f)
 
 pub sound_exactly : (r : FrameRun) →
     (frame_sound r ≡ true) ↔ ((frame_table_keeps r.table ≡ true) × StateSound r.table r.state)
@@ -88,5 +90,5 @@ pub unsound_exactly : (r : FrameRun) →
     (frame_sound r ≡ false) ↔ ((frame_table_keeps r.table ≡ true) × StateSound r.table r.state → ⊥)
 unsound_exactly r = (
   λ e p. clash (frame_sound r) (sound_build r p.0 p.1) e,
-  λ n. elim (true_or_false (frame_sound r)) [ inl e ↦ absurd (n ((sound_exactly r).0 e)) | inr e ↦ e ],
+  λ n. elim (cases_Bool (frame_sound r)) [ inl e ↦ absurd (n ((sound_exactly r).0 e)) | inr e ↦ e ],
 )

@@ -9,7 +9,9 @@ use native.Mathlib.Omega.{arith}
 use lib.Dec.{eqb}
 use lib.ListN.{length, length-set}
 use borrow.Author.Tests.{ltb-true, lt-ltb, eqb-true, eq-eqb, eqb-false}
-use Rattle.laws.proofs.Choice.{clash, if_ind, and_left, and_right, and_true}
+use Rattle.std.specs.Cmp.{first_so, second_so}
+use Rattle.std.proofs.lemmas.Bool.{and_from}
+use Rattle.laws.proofs.Choice.{clash, if_ind}
 use Rattle.laws.proofs.Highest.{highest_at, highest_none}
 use Rattle.slots.specs.Frame.{owner_at}
 use Rattle.events.specs.Answers.{ran, charged, finished_by, cut_by}
@@ -153,12 +155,12 @@ found_front t s k e =
     record {
       found = e;
       below = h.below;
-      waits = ltb-true 0 (waiting_at s k) (and_left (waits_in (queues_of s) k) (eqb (partition_at t k) p) h.is);
-      belongs = eqb-true (partition_at t k) p (and_right (waits_in (queues_of s) k) (eqb (partition_at t k) p) h.is);
+      waits = ltb-true 0 (waiting_at s k) (first_so (waits_in (queues_of s) k) (eqb (partition_at t k) p) h.is);
+      belongs = eqb-true (partition_at t k) p (second_so (waits_in (queues_of s) k) (eqb (partition_at t k) p) h.is);
       top =
           λ j l w o.
           h.top j l
-          (and_true (waits_in (queues_of s) j) (eqb (partition_at t j) p) (lt-ltb 0 (waiting_at s j) w)
+          (and_from (waits_in (queues_of s) j) (eqb (partition_at t j) p) (lt-ltb 0 (waiting_at s j) w)
           (eq-eqb (partition_at t j) p o));
     }
 
@@ -169,7 +171,7 @@ unfolding highest_task
 none_waits t s p e k l o w =
     let marked : ℕ → Bool = λ j. waits_in (queues_of s) j && eqb (partition_at t j) p in
     clash (marked k)
-    (and_true (waits_in (queues_of s) k) (eqb (partition_at t k) p) (lt-ltb 0 (waiting_at s k) w) (eq-eqb (partition_at t k) p o))
+    (and_from (waits_in (queues_of s) k) (eqb (partition_at t k) p) (lt-ltb 0 (waiting_at s k) w) (eq-eqb (partition_at t k) p o))
     (highest_none marked (frame_priority_at t) t.ntasks e k l)
 
 pub ran_front : (t : FrameTable) (s : FrameState) (k : ℕ) → ran (turn_at t s) k ≡ 1 → RunsFront t s k

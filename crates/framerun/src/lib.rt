@@ -9,6 +9,7 @@ use units::Ticks;
 
 // The counts of a run: the tasks' queues (crate queues), the last-run job, and how many ticks were
 // taken and releases accepted. There is no mode, and no server's budget.
+// Kept: arrays, as document 01 has the state of a run.
 #[derive(Clone, Copy)]
 pub struct FrameState {
     pub waiting: [u8; TASKS],
@@ -19,6 +20,7 @@ pub struct FrameState {
 }
 
 // A state with its table.
+// Kept: each box has its own run, by whose name the promises speak of it.
 #[derive(Clone, Copy)]
 pub struct FrameRun {
     pub table: FrameTable,

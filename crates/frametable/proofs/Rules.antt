@@ -8,7 +8,8 @@ use lib.ListN.{length, get_or}
 use Rattle.laws.specs.Choice.{every, within}
 use Rattle.laws.specs.Rows.{all_below}
 use Rattle.laws.proofs.Rows.{all_at}
-use Rattle.laws.proofs.Choice.{and_left, and_right, every_at, within_low, within_high}
+use Rattle.std.specs.Cmp.{first_so, second_so}
+use Rattle.laws.proofs.Choice.{every_at, within_low, within_high}
 use Rattle.table.specs.Rules.{differ}
 use Rattle.table.proofs.Inner.{all_in_use, column_apart}
 use Rattle.frametable.specs.declared.FrameTable.{FrameTable}
@@ -51,11 +52,11 @@ frame_task_rules t k e =
 -- the tests of a whole table, by place
 count_held : (t : FrameTable) → frame_table_keeps t ≡ true → within 1 64 t.ntasks ≡ true
 unfolding frame_table_keeps
-count_held t e = and_left (within 1 64 t.ntasks) (frame_keeps (frame_rows_of t)) e
+count_held t e = first_so (within 1 64 t.ntasks) (frame_keeps (frame_rows_of t)) e
 
 pub frame_rows_keep : (t : FrameTable) → frame_table_keeps t ≡ true → frame_keeps (frame_rows_of t) ≡ true
 unfolding frame_table_keeps
-frame_rows_keep t e = and_right (within 1 64 t.ntasks) (frame_keeps (frame_rows_of t)) e
+frame_rows_keep t e = second_so (within 1 64 t.ntasks) (frame_keeps (frame_rows_of t)) e
 
 pub record FrameTests (a : FrameRows) : Type 0 where
   pub tick : within 1 10000 a.tick.0 ≡ true

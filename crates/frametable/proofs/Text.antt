@@ -15,7 +15,8 @@ use lib.ListN.{length, get_or, length-append}
 use borrow.Author.Tests.{ltb-true, eqb-true}
 use Rattle.laws.specs.Choice.{every}
 use Rattle.laws.specs.Search.{first_failed}
-use Rattle.laws.proofs.Choice.{clash, if_ind, and_left, and_right, every_at, within_low, within_high, is_within}
+use Rattle.std.specs.Cmp.{first_so, second_so}
+use Rattle.laws.proofs.Choice.{clash, if_ind, every_at, within_low, within_high, is_within}
 use Rattle.laws.proofs.Rows.{all_build}
 use Rattle.laws.proofs.Search.{failed_none}
 use Rattle.units.specs.declared.Micros.{Micros}
@@ -57,12 +58,12 @@ frame_line_keeps n a l e =
 -- the bounds of a task's line are its room and the rule of its row
 pub frame_task_room : (rows t : ℕ) (k : FrameTaskLine) → every (frame_task_bounds rows t k) ≡ true → rows < 64
 unfolding frame_task_bounds every
-frame_task_room rows t k e = ltb-true rows 64 (and_left (ltb rows 64) (every (frame_task_keeps (frame_task_of t k))) e)
+frame_task_room rows t k e = ltb-true rows 64 (first_so (ltb rows 64) (every (frame_task_keeps (frame_task_of t k))) e)
 
 pub frame_task_keeps_lem : (rows t : ℕ) (k : FrameTaskLine) → every (frame_task_bounds rows t k) ≡ true →
     every (frame_task_keeps (frame_task_of t k)) ≡ true
 unfolding frame_task_bounds every
-frame_task_keeps_lem rows t k e = and_right (ltb rows 64) (every (frame_task_keeps (frame_task_of t k))) e
+frame_task_keeps_lem rows t k e = second_so (ltb rows 64) (every (frame_task_keeps (frame_task_of t k))) e
 
 -- a `tick` line's time, as a bound
 pub frame_tick_within : (a : FrameRows) (u : Micros) → every (frame_bounds a (OfTick u)) ≡ true →

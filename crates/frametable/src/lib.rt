@@ -3,13 +3,13 @@
 
 #![tactic(auto)]
 
-ghost use Rattle.std.specs.Prelude.{◌≡◌, take, ◌≤◌, min};
+ghost use Rattle.std.specs.Prelude.{◌≡◌, ℕ, take};
 ghost use Rattle.laws.specs.Choice.{every};
 ghost use Rattle.frametable.specs.Rows.{no_frame_table};
 ghost use Rattle.frametable.specs.Rules.{frame_task_keeps, equal_frame_tasks, frame_table_keeps};
 ghost use Rattle.frametable.specs.Inner.{frame_tasks_keep};
 
-use table::TASKS;
+use table::{HasPriority, TASKS};
 use text::Word;
 use units::{Micros, Ticks};
 
@@ -22,6 +22,7 @@ pub struct FrameTask {
 }
 
 // The rows in use are the first ntasks.
+// Kept: a board has no heap, so rows are an array of fixed length with their count beside it.
 #[derive(Clone, Copy)]
 pub struct FrameTable {
     pub tick: Micros,
@@ -40,6 +41,7 @@ pub struct FrameTaskLine {
 // What a line says, nothing of it judged but its form: a malformed one has its leading word and the
 // first field that is wrong, from 1, or 0 for a word that no line here has or a wrong count of
 // fields.
+// Kept: as text::Line: a malformed line is judged by its place first; the lines here are others.
 #[derive(Clone, Copy)]
 pub enum FrameLine {
     OfTick(Micros),
@@ -48,6 +50,8 @@ pub enum FrameLine {
 }
 
 // The table that stands beside a refusal, and that reading begins with: no tick and no rows.
+// Kept: zeros are written out: Ticks and Micros have no default.
+#[tactic(auto, unfolding(crate::specs::Rows::frame_table_of))]
 pub fn no_frame_table() -> FrameTable
     ensures { result ≡ no_frame_table }
 {
@@ -63,71 +67,48 @@ pub fn no_frame_table() -> FrameTable
     }
 }
 
-// How many rows of the array are in use: a count handed in may be past its end.
-fn rows_in_use(count: usize) -> usize
-    ensures { result ≡ min count 64 }
-{
-    if count < TASKS { count } else { TASKS }
+impl HasPriority for FrameTask {
+    ghost priority_of = { λ k. k.priority };
+
+    fn priority(&self) -> u8 {
+        self.priority
+    }
 }
 
-// The first pair of tasks with equal priority, among the first count.
+// The first pair of tasks with equal priority, among the first count: a count handed in may be past
+// the end.
+// Kept: equal_frame_tasks is public and takes an array and a count.
 pub fn equal_frame_tasks(ks: [FrameTask; TASKS], count: usize) -> Option<(usize, usize)>
     ensures { result ≡ equal_frame_tasks (take count ks) }
 {
-    let n = rows_in_use(count);
-    let mut answer = None;
-    'rows: for k in 0..n {
-        for l in k + 1..n {
-            if ks[k].priority == ks[l].priority {
-                answer = Some((k, l));
-                break 'rows;
-            }
-        }
-    }
-    answer
+    table::equal_rows(&ks[..count.min(TASKS)])
 }
 
-// The rules of a task's row, a flag for each test of the rule, in its order.
+// The rules of a task's row, a test for each of the rule, in its order.
+#[tactic(auto, unfolding(crate::specs::Rules::frame_task_keeps))]
 fn frame_task_keeps(k: FrameTask) -> bool
     ensures { result ≡ every (frame_task_keeps k) }
 {
-    let partition = laws::is_within(0, 2, k.partition as u64);
-    let priority = laws::is_within(1, 255, k.priority as u64);
-    let limit = laws::is_within(1, 100000, k.limit.0 as u64);
-    laws::all_of(&[partition, priority, limit])
+    laws::all_of(&[
+        laws::is_within(0, 2, k.partition as u64),
+        laws::is_within(1, 255, k.priority as u64),
+        laws::is_within(1, 100000, k.limit.0 as u64),
+    ])
 }
 
-// The rows past the count hold nothing that is asked about.
-fn frame_tasks_keep(ks: [FrameTask; TASKS], n: usize) -> bool
-    requires { n ≤ 64 }
-    ensures { result ≡ frame_tasks_keep ks n }
+fn frame_tasks_keep(ks: &[FrameTask]) -> bool
+    ensures { result ≡ frame_tasks_keep ks.now }
 {
-    for i in 0..n {
-        let k = ks[i];
-        if !frame_task_keeps(k) {
-            return false;
-        }
-    }
-    true
+    ks.iter().all(|k| frame_task_keeps(*k))
 }
 
 // Whether a frame box's table keeps the rules. The count comes first: no row past the array is then
-// asked for.
+// asked for, and rows past the count hold nothing that is asked about.
 pub fn frame_table_keeps(t: FrameTable) -> bool
     ensures { result ≡ frame_table_keeps t }
 {
-    let n = t.ntasks;
-    let tick = t.tick.0;
-    if !laws::is_within(1, TASKS as u64, n as u64) {
-        return false;
-    }
-    let ticks = laws::is_within(1, 10000, tick);
-    let ks = t.tasks;
-    let rows = frame_tasks_keep(ks, n);
-    match equal_frame_tasks(ks, n) {
-        Some((_, _)) => false,
-        // The count and that priorities differ are known by now; they keep their places in the rule's
-        // list.
-        None => laws::all_of(&[ticks, true, rows, true]),
-    }
+    laws::is_within(1, TASKS as u64, t.ntasks as u64)
+        && laws::is_within(1, 10000, t.tick.0)
+        && frame_tasks_keep(&t.tasks[..t.ntasks])
+        && table::equal_rows(&t.tasks[..t.ntasks]).is_none()
 }

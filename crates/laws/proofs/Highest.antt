@@ -10,7 +10,8 @@ use lib.Dec.{ltb}
 use borrow.Author.Tests.{lt-ltb, le-ltb, ltb-true, ltb-false}
 use borrow.Author.Count.{below_more}
 use Rattle.laws.specs.Rows.{all_below, highest, found_by}
-use Rattle.laws.proofs.Choice.{clash, and_true, true_or_false}
+use Rattle.std.proofs.lemmas.Bool.{and_from, cases_Bool}
+use Rattle.laws.proofs.Choice.{clash}
 use Rattle.laws.proofs.Search.{Searched, hit, miss, is_least}
 use Rattle.laws.proofs.Rows.{all_build, all_fails}
 
@@ -112,7 +113,7 @@ module _ (marked : ℕ → Bool) (priority : ℕ → ℕ) where
           i
           (omega arith)
           (omega (arith, s.below))
-          (and_true
+          (and_from
           (marked i)
           (all_below n (λ j. not (marked j && ltb (priority i) (priority j))))
           s.is
@@ -122,7 +123,7 @@ module _ (marked : ℕ → Bool) (priority : ℕ → ℕ) where
   -- so the highest row is picked
   walk : (n : ℕ) → (a : Option ℕ) × Picked n marked priority a
   walk zero = (None, picked_none)
-  walk (suc n) = go (walk n).0 (walk n).1 (true_or_false (marked n))
+  walk (suc n) = go (walk n).0 (walk n).1 (cases_Bool (marked n))
     where
       one : (a : Option ℕ) → Picked (n + 1) marked priority a → (a : Option ℕ) × Picked (suc n) marked priority a
       one a p = (a, rw (add-one n) at p)
@@ -226,7 +227,7 @@ module _ (n : ℕ) (marked : ℕ → Bool) (priority : ℕ → ℕ)
     λ f.
         sym
         (picked_is marked priority n None
-        (λ j l. elim (true_or_false (marked j)) [ inl e ↦ absurd (f j ((is j).1 (l, e))) | inr e ↦ e ])),
+        (λ j l. elim (cases_Bool (marked j)) [ inl e ↦ absurd (f j ((is j).1 (l, e))) | inr e ↦ e ])),
   )
 
 -- The highest rests on the rows below n alone.

@@ -11,7 +11,9 @@ use lib.ListN.{length, get_or}
 use lib.Seq.{ext_get_or}
 use borrow.Author.Count.{below_more}
 use Rattle.laws.specs.Rows.{all_below, any_below, sum_below, listed}
-use Rattle.laws.proofs.Choice.{clash, and_left, and_right, and_true, or_cases, or_false, true_or_false}
+use Rattle.std.specs.Cmp.{first_so, second_so}
+use Rattle.std.proofs.lemmas.Bool.{and_from, or_cases, or_parts, cases_Bool}
+use Rattle.laws.proofs.Choice.{clash}
 
 -- one row more, as a definition and as a loop has it
 pub upto : (P : ℕ → Type 0) (n : ℕ) → ((j : ℕ) → j < n → P j) → P n → (j : ℕ) → j < suc n → P j
@@ -24,22 +26,22 @@ all_none p = refl
 
 pub all_more : (p : ℕ → Bool) (n : ℕ) → all_below n p ≡ true → p n ≡ true → all_below (n + 1) p ≡ true
 unfolding all_below
-all_more p n e f = rw (add-one n) (and_true (all_below n p) (p n) e f)
+all_more p n e f = rw (add-one n) (and_from (all_below n p) (p n) e f)
 
 pub all_at : (p : ℕ → Bool) (n k : ℕ) → all_below n p ≡ true → k < n → p k ≡ true
 unfolding all_below
 all_at p zero k e h = absurd (omega arith)
 all_at p (suc n) k e h =
-    upto (λ j. p j ≡ true) n (λ j l. all_at p n j (and_left (all_below n p) (p n) e) l)
-    (and_right (all_below n p) (p n) e) k h
+    upto (λ j. p j ≡ true) n (λ j l. all_at p n j (first_so (all_below n p) (p n) e) l)
+    (second_so (all_below n p) (p n) e) k h
 
 pub all_build : (p : ℕ → Bool) (n : ℕ) → ((k : ℕ) → k < n → p k ≡ true) → all_below n p ≡ true
 unfolding all_below
 all_build p zero h = refl
-all_build p (suc n) h = and_true (all_below n p) (p n) (all_build p n (λ k l. h k (omega arith))) (h n (omega arith))
+all_build p (suc n) h = and_from (all_below n p) (p n) (all_build p n (λ k l. h k (omega arith))) (h n (omega arith))
 
 pub all_fails : (p : ℕ → Bool) (n k : ℕ) → k < n → p k ≡ false → all_below n p ≡ false
-all_fails p n k h e = go (true_or_false (all_below n p))
+all_fails p n k h e = go (cases_Bool (all_below n p))
   where
     go : (all_below n p ≡ true) ⊎ (all_below n p ≡ false) → all_below n p ≡ false
     go (inl t) = absurd (clash (p k) (all_at p n k t h) e)
@@ -55,11 +57,11 @@ pub any_none : (p : ℕ → Bool) (n k : ℕ) → any_below n p ≡ false → k 
 unfolding any_below
 any_none p zero k e h = absurd (omega arith)
 any_none p (suc n) k e h =
-    let o = or_false (any_below n p) (p n) e in
+    let o = or_parts (any_below n p) (p n) e in
     upto (λ j. p j ≡ false) n (λ j l. any_none p n j o.0 l) o.1 k h
 
 pub any_at : (p : ℕ → Bool) (n k : ℕ) → k < n → p k ≡ true → any_below n p ≡ true
-any_at p n k h e = go (true_or_false (any_below n p))
+any_at p n k h e = go (cases_Bool (any_below n p))
   where
     go : (any_below n p ≡ true) ⊎ (any_below n p ≡ false) → any_below n p ≡ true
     go (inl t) = t

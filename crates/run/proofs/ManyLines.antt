@@ -12,7 +12,8 @@ use lib.ListN.{length, get_or, drop}
 use lib.Seq.{drop-append_seam, drop_at}
 use borrow.Author.Tests.{leb-true, leb-false, le-leb, lt-leb}
 use Rattle.laws.specs.Choice.{unless◌say◌else◌}
-use Rattle.laws.proofs.Choice.{if_ind, and_left, and_right}
+use Rattle.std.specs.Cmp.{first_so, second_so}
+use Rattle.laws.proofs.Choice.{if_ind}
 use Rattle.table.specs.declared.Refusal.TheVariants.{RoomShort, Unsound}
 use Rattle.run.specs.declared.Run.{Run}
 use Rattle.events.specs.declared.Answer.{Answer}
@@ -192,8 +193,8 @@ module _ (r : Run) (values told found : List ℕ) where
       (λ e f.
       y (
         e,
-        leb-true (9 * many) (length told) (and_left told_fits found_fits f),
-        leb-true (96 * many) (length found) (and_right told_fits found_fits f),
+        leb-true (9 * many) (length told) (first_so told_fits found_fits f),
+        leb-true (96 * many) (length found) (second_so told_fits found_fits f),
       ))
 
   abbrev find_number : ℕ

@@ -12,7 +12,9 @@ use lib.Dec.{eqb}
 use borrow.Author.Tests.{ltb-false, leb-true, eqb-true, le-ltb, le-leb, eq-eqb, not-true}
 use Rattle.laws.specs.Choice.{every}
 use Rattle.laws.specs.Rows.{all_below}
-use Rattle.laws.proofs.Choice.{clash, true_or_false, and_true, and_left, and_right}
+use Rattle.std.proofs.lemmas.Bool.{cases_Bool, and_from}
+use Rattle.std.specs.Cmp.{first_so, second_so}
+use Rattle.laws.proofs.Choice.{clash}
 use Rattle.laws.proofs.Choice.{every_at}
 use Rattle.laws.proofs.Rows.{all_at, all_build}
 use Rattle.table.specs.declared.Table.{Table}
@@ -61,8 +63,8 @@ pub record StateSound (t : Table) (s : State) : Type 0 where
 before_facts : (b : Bool) (u e : ℕ) → (b || eqb u 0 && eqb e 0) ≡ true → b ≡ false → (u ≡ 0) × (e ≡ 0)
 before_facts true u e h q = absurd (clash true refl q)
 before_facts false u e h q = (
-  eqb-true u 0 (and_left (eqb u 0) (eqb e 0) h),
-  eqb-true e 0 (and_right (eqb u 0) (eqb e 0) h),
+  eqb-true u 0 (first_so (eqb u 0) (eqb e 0) h),
+  eqb-true e 0 (second_so (eqb u 0) (eqb e 0) h),
 )
 
 server_facts : (t : Table) (s : State) (i : ℕ) → every (sound_server t s i) ≡ true → ServerSound t s i
@@ -117,7 +119,7 @@ before_tests : (b : Bool) (u e : ℕ) → (b ≡ false → (u ≡ 0) × (e ≡ 0
 before_tests true u e f = refl
 before_tests false u e f =
     let z = f refl in
-    and_true (eqb u 0) (eqb e 0) (eq-eqb u 0 z.0) (eq-eqb e 0 z.1)
+    and_from (eqb u 0) (eqb e 0) (eq-eqb u 0 z.0) (eq-eqb e 0 z.1)
 
 server_tests_lem : (t : Table) (s : State) (i : ℕ) → ServerSound t s i → every (sound_server t s i) ≡ true
 unfolding sound_server every
@@ -160,17 +162,17 @@ state_tests t s f =
 -- A run is sound exactly if its table keeps the rules and its state the clauses.
 pub sound_table : (r : Run) → sound r ≡ true → table_keeps r.table ≡ true
 unfolding sound
-sound_table r e = and_left (table_keeps r.table) (sound_state r.table r.state) e
+sound_table r e = first_so (table_keeps r.table) (sound_state r.table r.state) e
 
 pub sound_state_lem : (r : Run) → sound r ≡ true → StateSound r.table r.state
 unfolding sound
 sound_state_lem r e =
-    state_facts r.table r.state (and_right (table_keeps r.table) (sound_state r.table r.state) e)
+    state_facts r.table r.state (second_so (table_keeps r.table) (sound_state r.table r.state) e)
 
 pub sound_build : (r : Run) → table_keeps r.table ≡ true → StateSound r.table r.state → sound r ≡ true
 unfolding sound
 sound_build r e f =
-    and_true (table_keeps r.table) (sound_state r.table r.state) e (state_tests r.table r.state f)
+    and_from (table_keeps r.table) (sound_state r.table r.state) e (state_tests r.table r.state f)
 
 pub sound_exactly : (r : Run) → (sound r ≡ true) ↔ ((table_keeps r.table ≡ true) × StateSound r.table r.state)
 sound_exactly r = (λ e. (sound_table r e, sound_state_lem r e), λ p. sound_build r p.0 p.1)
@@ -180,5 +182,5 @@ pub unsound_exactly : (r : Run) →
     (sound r ≡ false) ↔ ((table_keeps r.table ≡ true) × StateSound r.table r.state → ⊥)
 unsound_exactly r = (
   λ e p. clash (sound r) (sound_build r p.0 p.1) e,
-  λ n. elim (true_or_false (sound r)) [ inl e ↦ absurd (n ((sound_exactly r).0 e)) | inr e ↦ e ],
+  λ n. elim (cases_Bool (sound r)) [ inl e ↦ absurd (n ((sound_exactly r).0 e)) | inr e ↦ e ],
 )

@@ -9,7 +9,9 @@ use Prim.Native.Nat.{ℕ, ◌+◌, ◌≤◌, ◌<◌}
 use native.Mathlib.Omega.{arith}
 use lib.ListN.{length}
 use borrow.Author.Tests.{eqb-true, lt-ltb, not-true}
-use Rattle.laws.proofs.Choice.{clash, if_ind, and_left, and_right, and_true}
+use Rattle.std.specs.Cmp.{first_so, second_so}
+use Rattle.std.proofs.lemmas.Bool.{and_from}
+use Rattle.laws.proofs.Choice.{clash, if_ind}
 use Rattle.laws.proofs.Rows.{any_none}
 use Rattle.laws.proofs.Anew.{anew_at}
 use Rattle.table.specs.declared.Level.TheVariants.{LO}
@@ -80,12 +82,12 @@ pub drops_exactly : (t : Table) (before : Mode) (s : State) (k : ℕ) →
 unfolding drops
 drops_exactly t before s k = (
   λ e.
-      let f = and_left (a && b) l e in (
-        (d2_exactly s.mode).0 (and_left a b f),
-        λ q. clash (is_d2 before) (ap is_d2 q) (not-true (is_d2 before) (and_right a b f)),
-        (low_exactly (task_at t k).level).0 (and_right (a && b) l e),
+      let f = first_so (a && b) l e in (
+        (d2_exactly s.mode).0 (first_so a b f),
+        λ q. clash (is_d2 before) (ap is_d2 q) (not-true (is_d2 before) (second_so a b f)),
+        (low_exactly (task_at t k).level).0 (second_so (a && b) l e),
       ),
-  λ p. and_true (a && b) l (and_true a b (ap is_d2 p.0) (out p (is_d2 before) refl)) (ap is_low p.2),
+  λ p. and_from (a && b) l (and_from a b (ap is_d2 p.0) (out p (is_d2 before) refl)) (ap is_low p.2),
 )
   where
     a : Bool

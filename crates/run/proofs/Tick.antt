@@ -9,7 +9,9 @@ use Prim.Native.Nat.{ℕ, ◌+◌, ◌≤◌, ◌<◌}
 use native.Mathlib.Omega.{arith}
 use lib.Dec.{leb, ltb, eqb}
 use borrow.Author.Tests.{leb-false, lt-leb, ltb-true, lt-ltb, eqb-true}
-use Rattle.laws.proofs.Choice.{clash, and_left, and_right, and_true, or_true_left, or_true_right, or_cases, le_or_lt, true_or_false}
+use Rattle.std.specs.Cmp.{first_so, second_so}
+use Rattle.std.proofs.lemmas.Bool.{and_from, or_left, or_right, or_cases, cases_Bool}
+use Rattle.laws.proofs.Choice.{clash, le_or_lt}
 use Rattle.laws.proofs.Rows.{any_found, any_at}
 use Rattle.laws.proofs.Anew.{anew_at}
 use Rattle.laws.proofs.Highest.{highest_at, highest_none}
@@ -187,21 +189,21 @@ pub timed_able : (t : Table) (z : State) (i : ℕ) → is_timed (server_at t i).
     used_at z i < in_force t z i → able t z i ≡ true
 unfolding able
 timed_able t z i k u =
-    and_true
+    and_from
     (ltb (used_at z i) (in_force t z i))
     (is_timed (server_at t i).kind || waits t z i)
     (lt-ltb (used_at z i) (in_force t z i) u)
-    (or_true_left (is_timed (server_at t i).kind) (waits t z i) k)
+    (or_left (is_timed (server_at t i).kind) (waits t z i) k)
 
 pub waiting_able : (t : Table) (z : State) (i : ℕ) → waits t z i ≡ true → used_at z i < in_force t z i →
     able t z i ≡ true
 unfolding able
 waiting_able t z i w u =
-    and_true
+    and_from
     (ltb (used_at z i) (in_force t z i))
     (is_timed (server_at t i).kind || waits t z i)
     (lt-ltb (used_at z i) (in_force t z i) u)
-    (or_true_right (is_timed (server_at t i).kind) (waits t z i) w)
+    (or_right (is_timed (server_at t i).kind) (waits t z i) w)
 
 pub able_room : (t : Table) (z : State) (i : ℕ) → able t z i ≡ true → used_at z i < in_force t z i
 unfolding able
@@ -209,7 +211,7 @@ able_room t z i a =
     ltb-true
     (used_at z i)
     (in_force t z i)
-    (and_left
+    (first_so
     (ltb (used_at z i) (in_force t z i))
     (is_timed (server_at t i).kind || waits t z i)
     a)
@@ -226,7 +228,7 @@ force_late t z i e = rw e
 
 pub force_low : (t : Table) (z : State) (i : ℕ) → in_force t z i ≤ capacity_at t z.mode i
 force_low t z i =
-    elim (true_or_false (started t z i)) [
+    elim (cases_Bool (started t z i)) [
       | inl e ↦ omega (arith, force_started t z i e)
       | inr e ↦ omega (arith, force_late t z i e)
     ]
@@ -234,7 +236,7 @@ force_low t z i =
 -- so an able server has started
 pub able_started : (t : Table) (z : State) (i : ℕ) → able t z i ≡ true → started t z i ≡ true
 able_started t z i a =
-    elim (true_or_false (started t z i)) [
+    elim (cases_Bool (started t z i)) [
       | inl e ↦ e
       | inr e ↦ absurd (omega (arith, able_room t z i a, force_late t z i e))
     ]
@@ -264,7 +266,7 @@ able_cause t z i a =
     or_cases
     (is_timed (server_at t i).kind)
     (waits t z i)
-    (and_right
+    (second_so
     (ltb (used_at z i) (in_force t z i))
     (is_timed (server_at t i).kind || waits t z i)
     a)
@@ -292,8 +294,8 @@ found_front t z i k c e =
       turn = says;
       ran = ap (λ u. ran u k) says ∙ one_same k;
       below = h.below;
-      waits = and_left w o h.is;
-      belongs = eqb-true (owner z.mode (task_at t k)) i (and_right w o h.is);
+      waits = first_so w o h.is;
+      belongs = eqb-true (owner z.mode (task_at t k)) i (second_so w o h.is);
       top = h.top;
     }
 

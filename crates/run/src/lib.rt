@@ -8,6 +8,7 @@ use units::Ticks;
 
 // The counts of a run, row by row. A task's queue is the number of its waiting jobs and the run
 // count of the front one. (Crate queues.)
+// Kept: document 01 names this form, a struct with arrays of used, elapsed, waiting and run counts.
 #[derive(Clone, Copy)]
 pub struct State {
     pub mode: Mode,
@@ -21,6 +22,7 @@ pub struct State {
 }
 
 // A state with its table.
+// Kept: each box has its own run, by whose name the promises speak of it.
 #[derive(Clone, Copy)]
 pub struct Run {
     pub table: Table,
@@ -28,6 +30,7 @@ pub struct Run {
 }
 
 // The mode after a job was judged, and whether it was cut.
+// Kept: mode and cut both always count: a job may raise the mode and then be cut in the new one.
 #[derive(Clone, Copy)]
 pub struct Judged {
     pub mode: Mode,
@@ -36,10 +39,12 @@ pub struct Judged {
 
 // What steps 5 and 2 find at a taken tick, as plain numbers: one for each server and one for each
 // task. (specs/Found.antt.)
+// Kept: numbers one after the other, since so many are lent at once (docs/DECISIONS.md, Ours).
 pub const FOUND_VALUES: usize = SERVERS + TASKS;
 
 // What is handed back for many event lines of which what is found is asked too: that they were taken,
 // or why none of them was, the run after them, and how many ticks were taken among the lines.
+// Kept: ticks stands beside the answer: find_of says the count of a refusal too.
 #[derive(Clone, Copy)]
 pub struct Finding {
     pub answer: Result<(), Refusal>,

@@ -131,6 +131,5 @@ pub fn slot_in(frame: &[u8; SLOTS], tick: u32) -> u8
 pub fn owner_of(tick: u32) -> u8
     ensures { result ≡ owner_at tick }
 {
-    let frame = the_frame();
-    slot_in(&frame, tick)
+    slot_in(&the_frame(), tick)
 }

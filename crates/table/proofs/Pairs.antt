@@ -1,24 +1,27 @@
 -- The first pair of equal priorities: what it is, that nothing else is it, and that there is none exactly where all differ.
 -- Each of the two searches has one answer, and nested loops over the rows find it. Assumes nothing.
-use Rattle.std.proofs.Common.{None, Option, Some}
+use Rattle.std.proofs.Common.{None, Option, Some, is_none}
 use mathlib.Core.Path.{◌≡◌, refl, sym, ap, ◌∙◌}
 use mathlib.Core.Bool.{true, not}
 use mathlib.Core.Logic.{inl, inr}
 use mathlib.Core.List.{List}
-use Prim.Native.Nat.{ℕ, suc, ◌+◌, ◌-◌, ◌≤◌, ◌<◌, min}
+use Prim.Native.Nat.{ℕ, suc, ◌+◌, ◌-◌, ◌≤◌, ◌<◌}
 use native.Mathlib.Omega.{arith}
 use lib.Dec.{eqb}
-use lib.ListN.{length, get_or, take, length-take}
+use Rattle.std.proofs.Common.{map, slice_index}
+use Rattle.std.proofs.lemmas.List.{length-map, get_or-map, get_or-drop}
 use lib.Seq.{get_or-take}
+use lib.ListN.{length, get_or, take, drop}
 use borrow.Author.Count.{below_more}
 use borrow.Author.Tests.{eqb-true, eqb-false, eq-eqb, ne_eqb}
 use Rattle.laws.specs.Search.{first_of}
 use Rattle.laws.specs.Rows.{all_below}
-use Rattle.laws.proofs.Choice.{clash, is_false, le_or_lt}
+use Rattle.std.proofs.lemmas.Bool.{false_from_ne_true}
+use Rattle.laws.proofs.Choice.{clash, le_or_lt}
 use Rattle.laws.proofs.Search.{hit, miss, is_least, found_passes, found_first, none_passes}
 use Rattle.laws.proofs.Search.{First, first, nowhere, first_at, first_none, first_is}
 use Rattle.laws.proofs.Rows.{all_at, all_build}
-use Rattle.table.specs.Pairs.{later_equal, first_pair, is_differ}
+use Rattle.table.specs.Pairs.{later_equal, first_pair, equal_rows}
 use Rattle.table.specs.Rules.{differ}
 
 -- no two rows below n are equal
@@ -140,60 +143,46 @@ differ_pair n p e = sym (is_pair n p None (differ_at n p e))
 pub pair_differ : (n : ℕ) (p : ℕ → ℕ) → first_pair n p ≡ None → differ n p ≡ true
 pair_differ n p e = differ_build n p (pair_none n p e)
 
--- and so the pair that is found tells it
-pub differ_found : (n : ℕ) (p : ℕ → ℕ) → is_differ (first_pair n p) ≡ differ n p
+-- and so whether a pair is found tells it
+pub differ_found : (n : ℕ) (p : ℕ → ℕ) → is_none (first_pair n p) ≡ differ n p
 differ_found n p = go (first_pair n p) refl
   where
-    go : (a : Option (ℕ × ℕ)) → first_pair n p ≡ a → is_differ a ≡ differ n p
+    go : (a : Option (ℕ × ℕ)) → first_pair n p ≡ a → is_none a ≡ differ n p
     go None e = sym (pair_differ n p e)
     go (Some (i, j)) e =
         let f = pair_found n p i j e in
-        sym (is_false (differ n p) (λ d. differ_at n p d i j f.ordered f.below f.equal))
+        sym (false_from_ne_true (differ n p) (λ d. differ_at n p d i j f.ordered f.below f.equal))
 
--- A search row by row that has come to row j after row i: no pair before it is equal.
-pub record Sought (n : ℕ) (p : ℕ → ℕ) (i j : ℕ) : Type 0 where
+-- A search over priorities row by row that has come to row j after row i: no pair before it is equal.
+pub record Sought (ps : List ℕ) (i j : ℕ) : Type 0 where
   pub after : i < j
-  pub rows : (a : ℕ) → a < i → (b : ℕ) → a < b → b < n → p a ≡ p b → ⊥
-  pub row : (b : ℕ) → b < j → i < b → p i ≡ p b → ⊥
+  pub rows : (a : ℕ) → a < i → (b : ℕ) → a < b → b < length ps → slice_index ps a ≡ slice_index ps b → ⊥
+  pub row : (b : ℕ) → b < j → i < b → slice_index ps i ≡ slice_index ps b → ⊥
 
-module _ {n : ℕ} {p : ℕ → ℕ} where
-  pub sought_none : Sought n p 0 1
-  sought_none =
-      record {
-        after = omega arith;
-        rows = λ a h. absurd (omega arith);
-        row = λ b h k. absurd (omega arith);
-      }
-
-  pub sought_next : {i j : ℕ} → Sought n p i j → (p i ≡ p j → ⊥) → Sought n p i (j + 1)
-  sought_next {i} {j} s d =
-      record {
+module _ {ps : List ℕ} where
+  pub sought_next : {i j k : ℕ} → Sought ps i j → (slice_index ps i ≡ slice_index ps j → ⊥) → k ≡ j + 1 → Sought ps i k
+  sought_next {i} {j} {k} s d e =
+      rw e
+      (record {
         after = omega (arith, s.after);
         rows = s.rows;
-        row = below_more (λ b. i < b → p i ≡ p b → ⊥) j s.row (λ h. d);
-      }
+        row = below_more (λ b. i < b → slice_index ps i ≡ slice_index ps b → ⊥) j s.row (λ h. d);
+      })
 
-  pub sought_row : {i j : ℕ} → Sought n p i j → n ≤ j → Sought n p (i + 1) (i + 1 + 1)
-  sought_row {i} s h =
-      record {
-        after = omega arith;
-        rows = below_more (λ a. (b : ℕ) → a < b → b < n → p a ≡ p b → ⊥) i s.rows
-            (λ b k l. s.row b (omega arith) k);
-        row = λ b k l. absurd (omega arith);
-      }
+  pub sought_all : {i j : ℕ} → Sought ps i j → length ps ≤ i → None ≡ equal_rows ps
+  sought_all s h = is_pair (length ps) (slice_index ps) None (λ a b k l. s.rows a (omega arith) b k l)
 
-  sought_all : {i j : ℕ} → Sought n p i j → n ≤ i → AllDiffer n p
-  sought_all s h a b k l = s.rows a (omega arith) b k l
-
-  sought_first : {i j : ℕ} → Sought n p i j → j < n → p i ≡ p j → IsFirst n p i j
-  sought_first s h e =
-      record {
+  pub sought_first : {i j : ℕ} → Sought ps i j → j < length ps → slice_index ps i ≡ slice_index ps j →
+      Some (i, j) ≡ equal_rows ps
+  sought_first {i} {j} s h e =
+      is_pair (length ps) (slice_index ps) (Some (i, j))
+      (record {
         ordered = s.after;
         below = h;
         equal = e;
         rows = λ a b k. s.rows a k b;
         row = λ b k l. s.row b l k;
-      }
+      })
 
 paired_cong : (n : ℕ) (p q : ℕ → ℕ) → ((i : ℕ) → i < n → p i ≡ q i) → (a : Option (ℕ × ℕ)) → Paired n p a →
     Paired n q a
@@ -209,21 +198,22 @@ paired_cong n p q e (Some (i, j)) w =
     }
 paired_cong n p q e None w = λ i j h k u. w i j h k (e i (omega arith) ∙ u ∙ sym (e j k))
 
--- and its two ends, over the rows in use: m of the list, as many as n or the list allow
-module _ {A : Type 0} (f : A → ℕ) (d : A) (xs : List A) (n m : ℕ) (e : m ≡ min n (length xs)) where
-  in_use : (a : Option (ℕ × ℕ)) → Paired m (λ i. f (get_or xs i d)) a →
-      a ≡ first_pair (length (take n xs)) (λ i. f (get_or (take n xs) i d))
-  in_use a w =
-      rw (length-take n xs, ← e)
-      (is_pair m (λ i. f (get_or (take n xs) i d)) a
-      (paired_cong m (λ i. f (get_or xs i d)) (λ i. f (get_or (take n xs) i d))
-      (λ i h. ap f (sym (get_or-take n xs i d (omega arith)))) a w))
+-- the priorities in their order and those of the rows, by number, are the same
+pub rows_equal : {A : Type 0} (f : A → ℕ) (d : A) (xs : List A) →
+    equal_rows (map f xs) ≡ first_pair (length xs) (λ i. f (get_or xs i d))
+rows_equal f d xs =
+    rw (length-map xs f)
+    (is_pair (length xs) (λ i. f (get_or xs i d)) _
+    (paired_cong (length xs) (slice_index (map f xs)) (λ i. f (get_or xs i d)) (λ i h. get_or-map f xs i d 0 h) _
+    (pair_is (length xs) (slice_index (map f xs)))))
 
-  pub none_in_use : {i j : ℕ} → Sought m (λ i. f (get_or xs i d)) i j → m ≤ i →
-      None ≡ first_pair (length (take n xs)) (λ i. f (get_or (take n xs) i d))
-  none_in_use s h = in_use None (sought_all s h)
+-- a row's priority as a walk over the rows reads it, and over those after one
+module _ {A : Type 0} (f : A → ℕ) (xs : List A) where
+  pub priority_read : (i : ℕ) (x : A) → i < length xs → x ≡ get_or xs i x → f x ≡ slice_index (map f xs) i
+  priority_read i x h e = ap f e ∙ sym (get_or-map f xs i x 0 h)
 
-  pub first_in_use : {i j : ℕ} → Sought m (λ i. f (get_or xs i d)) i j → j < m →
-      f (get_or xs i d) ≡ f (get_or xs j d) →
-      Some (i, j) ≡ first_pair (length (take n xs)) (λ i. f (get_or (take n xs) i d))
-  first_in_use {i} {j} s h q = in_use (Some (i, j)) (sought_first s h q)
+  pub priority_after : (i j : ℕ) (y : A) → j < length xs - i → y ≡ get_or (take (length xs - i) (drop i xs)) j y →
+      f y ≡ slice_index (map f xs) (i + j)
+  priority_after i j y h e =
+      priority_read (i + j) y (omega arith)
+      (e ∙ get_or-take (length xs - i) (drop i xs) j y h ∙ get_or-drop i xs j y)

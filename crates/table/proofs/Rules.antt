@@ -14,7 +14,8 @@ use borrow.Author.Tests.{leb-true, ltb-true, lt-ltb, le-ltb, eqb-true}
 use Rattle.laws.specs.Choice.{unless◌say◌else◌, every, within}
 use Rattle.laws.specs.Rows.{all_below}
 use Rattle.laws.proofs.Rows.{all_at}
-use Rattle.laws.proofs.Choice.{clash, if_ind, and_left, and_right, every_at}
+use Rattle.std.specs.Cmp.{first_so, second_so}
+use Rattle.laws.proofs.Choice.{clash, if_ind, every_at}
 use Rattle.laws.proofs.Choice.{within_low, within_high, le_or_lt}
 use Rattle.table.specs.declared.ByMode.{ByMode}
 use Rattle.table.specs.declared.Refusal.{Refusal}
@@ -166,7 +167,7 @@ unfolding task_stands
 stands_keeps ss k e =
     let x = every (task_keeps k) in
     let y = task_fault ss k.home k.degraded k.limit in
-    (and_left x (is_kept y) e, kept_is y (and_right x (is_kept y) e))
+    (first_so x (is_kept y) e, kept_is y (second_so x (is_kept y) e))
 
 -- a row below a count is the same row of the list and of its part in use
 same_row : (ss : List Server) (n i : ℕ) → i < length (take n ss) → get_or (take n ss) i no_server ≡ get_or ss i no_server
@@ -244,7 +245,7 @@ task_rules t k l e =
 -- the tests of a whole table, by place
 servers_held : (t : Table) → table_keeps t ≡ true → within 1 32 t.nservers ≡ true
 unfolding table_keeps
-servers_held t e = and_left (within 1 32 t.nservers) (within 1 64 t.ntasks && keeps (rows_of t)) e
+servers_held t e = first_so (within 1 32 t.nservers) (within 1 64 t.ntasks && keeps (rows_of t)) e
 
 pub few_servers : (t : Table) → table_keeps t ≡ true → t.nservers ≤ 32
 few_servers t e = within_high 1 32 t.nservers (servers_held t e)
@@ -252,12 +253,12 @@ few_servers t e = within_high 1 32 t.nservers (servers_held t e)
 tasks_held : (t : Table) → table_keeps t ≡ true → within 1 64 t.ntasks ≡ true
 unfolding table_keeps
 tasks_held t e =
-    and_left (within 1 64 t.ntasks) (keeps (rows_of t)) (and_right (within 1 32 t.nservers) (within 1 64 t.ntasks && keeps (rows_of t)) e)
+    first_so (within 1 64 t.ntasks) (keeps (rows_of t)) (second_so (within 1 32 t.nservers) (within 1 64 t.ntasks && keeps (rows_of t)) e)
 
 pub rows_keep : (t : Table) → table_keeps t ≡ true → keeps (rows_of t) ≡ true
 unfolding table_keeps
 rows_keep t e =
-    and_right (within 1 64 t.ntasks) (keeps (rows_of t)) (and_right (within 1 32 t.nservers) (within 1 64 t.ntasks && keeps (rows_of t)) e)
+    second_so (within 1 64 t.ntasks) (keeps (rows_of t)) (second_so (within 1 32 t.nservers) (within 1 64 t.ntasks && keeps (rows_of t)) e)
 
 record Tests (a : Rows) : Type 0 where
   pub tick : within 1 10000 a.tick.0 ≡ true

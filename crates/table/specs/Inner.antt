@@ -1,15 +1,15 @@
 -- Only contracts of inner functions, of `row_in` and `rows_fault`, which crate reader calls, and
 -- proofs cite this file; a buyer need not read it. It says what the code asks of some rows of a
 -- table, one function of it each. `specs/Rules.antt` says the rules.
-use Rattle.std.specs.Prelude.{◌≡◌, Bool, List, ℕ, leb, ltb, eqb, length, get_or, take, if◌then◌else◌, Ok}
+use Rattle.std.specs.Prelude.{◌≡◌, Bool, List, ℕ, leb, ltb, eqb, length, if◌then◌else◌, Ok}
 use Rattle.laws.specs.Choice.{unless◌say◌else◌, every}
-use Rattle.laws.specs.Rows.{all_below}
+use Rattle.std.specs.List.{list_all}
 use Rattle.table.specs.declared.ByMode.{ByMode}
 use Rattle.table.specs.declared.Server.{Server}
 use Rattle.table.specs.declared.Task.{Task}
 use Rattle.table.specs.declared.Table.{Table}
 use Rattle.table.specs.declared.Refusal.TheVariants.{AbsentRow, OtherPartition, NotTimed, OtherServer, Falling}
-use Rattle.table.specs.Rows.{no_server, no_task, is_timed}
+use Rattle.table.specs.Rows.{is_timed}
 use Rattle.table.specs.Rules.{server_keeps, stays_home, task_stands}
 use Rattle.units.specs.declared.Ticks.{Ticks}
 use Rattle.table.specs.Refusals.{breaks, Standing}
@@ -31,13 +31,13 @@ rows_fault count h d home degraded limit =
     else unless leb limit.d1.0 limit.d2.0 say breaks Falling 7
     else (Ok tt)
 
--- the first n servers keep the rules of a row
-abbrev pub servers_keep : List Server → ℕ → Bool
-servers_keep ss n = all_below n (λ i. every (server_keeps (get_or ss i no_server)))
+-- servers keep the rules of a row
+abbrev pub servers_keep : List Server → Bool
+servers_keep ss = list_all (λ s. every (server_keeps s)) ss
 
--- the first m tasks keep the rules of a row, beside the first n servers
-abbrev pub tasks_keep : List Task → ℕ → List Server → ℕ → Bool
-tasks_keep ks m ss n = all_below m (λ k. task_stands (take n ss) (get_or ks k no_task))
+-- tasks keep the rules of a row, beside servers
+abbrev pub tasks_keep : List Task → List Server → Bool
+tasks_keep ks ss = list_all (λ k. task_stands ss k) ks
 
 -- every table that code holds has its arrays' lengths; a table of the definitions, whose rows are
 -- lists, is told so

@@ -3,13 +3,13 @@
 
 #![tactic(auto)]
 
-ghost use Rattle.std.specs.Prelude.{◌≡◌, take, ◌≤◌, min};
-ghost use Rattle.laws.specs.Choice.{every};
-ghost use Rattle.table.specs.Refusals.{number_of, is_kept};
+ghost use Rattle.std.specs.Prelude.{◌≡◌, ℕ, take, map, ◌≤◌};
+ghost use Rattle.laws.specs.Choice.{every, unless◌say◌else◌};
+ghost use Rattle.table.specs.Refusals.{number_of, is_kept, breaks};
 ghost use Rattle.table.specs.Rows.{in_mode, largest, is_timed, is_low, is_d2, mode_value, mode_said, no_table};
 ghost use Rattle.table.specs.Rules.{server_keeps, task_keeps, task_fault, task_stands, stays_home, table_keeps};
 ghost use Rattle.table.specs.Inner.{place_in, rows_fault, servers_keep, tasks_keep};
-ghost use Rattle.table.specs.Pairs.{is_differ, equal_servers, equal_tasks};
+ghost use Rattle.table.specs.Pairs.{equal_rows, equal_servers, equal_tasks};
 
 use units::{Micros, Ticks};
 
@@ -20,20 +20,20 @@ pub const TASKS: usize = 64;
 
 pub const MODES: usize = 3;
 
-#[derive(Clone, Copy)]
+#[derive(Clone, Copy, PartialEq, Eq)]
 pub enum Kind {
     Event,
     Timed,
 }
 
-#[derive(Clone, Copy)]
+#[derive(Clone, Copy, PartialEq, Eq, PartialOrd, Ord)]
 pub enum Level {
     LO,
     MI,
     HI,
 }
 
-#[derive(Clone, Copy)]
+#[derive(Clone, Copy, PartialEq, Eq, PartialOrd, Ord)]
 pub enum Mode {
     N,
     D1,
@@ -69,6 +69,7 @@ pub struct Task {
 }
 
 // The rows in use are the first nservers and the first ntasks.
+// Kept: a board has no heap, so rows are arrays of fixed length with their counts beside them.
 #[derive(Clone, Copy)]
 pub struct Table {
     pub tick: Micros,
@@ -78,51 +79,34 @@ pub struct Table {
     pub tasks: [Task; TASKS],
 }
 
-// Why something is refused. The paper's number of each is number_of, in specs/Refusals.antt.
-#[derive(Clone, Copy)]
+// Why something is refused, by the paper's number for no: specs/Refusals.antt says it too.
+#[derive(Clone, Copy, PartialEq, Eq)]
 pub enum Refusal {
-    Malformed,
-    OutOfBounds,
-    NotWhole,
-    AbsentRow,
-    OtherPartition,
-    NotTimed,
-    OtherServer,
-    Falling,
-    EqualPriorities,
-    NoTask,
-    LowInD2,
-    QueueFull,
-    NoJobRan,
-    CountSpent,
-    NoServer,
-    RoomShort,
-    Unsound,
+    Malformed = 1,
+    OutOfBounds = 2,
+    NotWhole = 3,
+    AbsentRow = 41,
+    OtherPartition = 42,
+    NotTimed = 43,
+    OtherServer = 44,
+    Falling = 45,
+    EqualPriorities = 5,
+    NoTask = 6,
+    LowInD2 = 7,
+    QueueFull = 8,
+    NoJobRan = 9,
+    CountSpent = 10,
+    NoServer = 11,
+    RoomShort = 12,
+    Unsound = 13,
 }
 
 // The paper's number for no.
+// Kept: number_of, mode_value and mode_said are promised by these names.
 pub fn number_of(why: Refusal) -> u64
     ensures { result ≡ number_of why }
 {
-    match why {
-        Refusal::Malformed => 1,
-        Refusal::OutOfBounds => 2,
-        Refusal::NotWhole => 3,
-        Refusal::AbsentRow => 41,
-        Refusal::OtherPartition => 42,
-        Refusal::NotTimed => 43,
-        Refusal::OtherServer => 44,
-        Refusal::Falling => 45,
-        Refusal::EqualPriorities => 5,
-        Refusal::NoTask => 6,
-        Refusal::LowInD2 => 7,
-        Refusal::QueueFull => 8,
-        Refusal::NoJobRan => 9,
-        Refusal::CountSpent => 10,
-        Refusal::NoServer => 11,
-        Refusal::RoomShort => 12,
-        Refusal::Unsound => 13,
-    }
+    why as u64
 }
 
 // What a line or a row breaks of the rules where it stands, and at which field: they count from 1
@@ -133,6 +117,7 @@ pub struct Fault {
     pub field: usize,
 }
 
+// Kept: field 0 is the line itself: 02, No. 2, has it so, and rows_fault answers by number.
 pub const THE_LINE: usize = 0;
 
 // The fields of a task at which it may break a rule on the rows that it names and on its limits.
@@ -151,6 +136,8 @@ fn is_kept(s: Result<(), Fault>) -> bool
 }
 
 // The table that stands beside a refusal, and that reading begins with: no tick and no rows.
+// Kept: zeros are written out: Kind and Level, which the rows hold, have no default.
+#[tactic(auto, unfolding(crate::specs::Rows::table_of))]
 pub fn no_table() -> Table
     ensures { result ≡ no_table }
 {
@@ -183,56 +170,64 @@ pub fn no_table() -> Table
     }
 }
 
-fn is_differ(p: Option<(usize, usize)>) -> bool
-    ensures { result ≡ is_differ p }
-{
-    p.is_none()
+// A row of whichever table that has a priority.
+pub trait HasPriority {
+    ghost priority_of: { Self → ℕ };
+
+    fn priority(&self) -> u8
+        ensures { result ≡ priority_of self.now };
 }
 
-// How many rows of an array are in use: a count handed in may be past its end.
-fn in_use(count: usize, most: usize) -> usize
-    ensures { result ≡ min count most }
-{
-    if count < most { count } else { most }
+impl HasPriority for Server {
+    ghost priority_of = { λ s. s.priority };
+
+    fn priority(&self) -> u8 {
+        self.priority
+    }
 }
 
-// "the first pair of server rows with equal priority", the smaller first, or none, among the first
-// count.
-pub fn equal_servers(ss: [Server; SERVERS], count: usize) -> Option<(usize, usize)>
-    ensures { result ≡ equal_servers (take count ss) }
+impl HasPriority for Task {
+    ghost priority_of = { λ k. k.priority };
+
+    fn priority(&self) -> u8 {
+        self.priority
+    }
+}
+
+// "the first pair of .. rows with equal priority, smaller row first (pairs ordered by it, then by
+// the larger row)", or none.
+pub fn equal_rows<T: HasPriority>(rows: &[T]) -> Option<(usize, usize)>
+    ensures { result ≡ equal_rows (map T.priority_of rows.now) }
 {
-    let n = in_use(count, SERVERS);
     let mut answer = None;
-    'rows: for i in 0..n {
-        for j in i + 1..n {
-            if ss[i].priority == ss[j].priority {
-                answer = Some((i, j));
+    'rows: for (i, x) in rows.iter().enumerate() {
+        for (j, y) in rows[i + 1..].iter().enumerate() {
+            if x.priority() == y.priority() {
+                answer = Some((i, i + 1 + j));
                 break 'rows;
             }
         }
     }
     answer
+}
+
+// The same of the first count server rows: a count handed in may be past the end.
+// Kept: equal_servers, equal_tasks and task_fault are public and take an array and a count.
+pub fn equal_servers(ss: [Server; SERVERS], count: usize) -> Option<(usize, usize)>
+    ensures { result ≡ equal_servers (take count ss) }
+{
+    equal_rows(&ss[..count.min(SERVERS)])
 }
 
 // "then the same for tasks".
 pub fn equal_tasks(ks: [Task; TASKS], count: usize) -> Option<(usize, usize)>
     ensures { result ≡ equal_tasks (take count ks) }
 {
-    let n = in_use(count, TASKS);
-    let mut answer = None;
-    'rows: for k in 0..n {
-        for l in k + 1..n {
-            if ks[k].priority == ks[l].priority {
-                answer = Some((k, l));
-                break 'rows;
-            }
-        }
-    }
-    answer
+    equal_rows(&ks[..count.min(TASKS)])
 }
 
-// The one of a mode: a match, since rows hold the three by name.
-pub fn in_mode(x: ByMode<Ticks>, m: Mode) -> Ticks
+// The one of a mode.
+pub fn in_mode<T: Copy>(x: ByMode<T>, m: Mode) -> T
     ensures { result ≡ in_mode x m }
 {
     match m {
@@ -246,114 +241,104 @@ pub fn in_mode(x: ByMode<Ticks>, m: Mode) -> Ticks
 pub fn largest_of(x: ByMode<Ticks>) -> Ticks
     ensures { result ≡ largest x }
 {
-    let two = laws::larger_of(x.n.0, x.d1.0);
-    let all = laws::larger_of(two, x.d2.0);
-    Ticks(all)
+    Ticks(laws::larger_of(laws::larger_of(x.n.0, x.d1.0), x.d2.0))
 }
 
-// Kinds, levels and modes are asked for by these: two values of an enum are not compared.
 fn is_timed(k: Kind) -> bool
     ensures { result ≡ is_timed k }
 {
-    match k {
-        Kind::Event => false,
-        Kind::Timed => true,
-    }
+    k == Kind::Timed
 }
 
+// Kept: as number_of: mode_value, mode_said, is_low and is_d2 are public (docs/FUNCTIONS.md).
 pub fn is_low(l: Level) -> bool
     ensures { result ≡ is_low l }
 {
-    match l {
-        Level::LO => true,
-        Level::MI => false,
-        Level::HI => false,
-    }
+    l == Level::LO
 }
 
 pub fn is_d2(m: Mode) -> bool
     ensures { result ≡ is_d2 m }
 {
-    match m {
-        Mode::N => false,
-        Mode::D1 => false,
-        Mode::D2 => true,
-    }
+    m == Mode::D2
 }
 
 // The modes in their order, as numbers: 0, 1, 2.
 pub fn mode_value(m: Mode) -> u64
     ensures { result ≡ mode_value m }
 {
-    match m {
-        Mode::N => 0,
-        Mode::D1 => 1,
-        Mode::D2 => 2,
-    }
+    m as u64
 }
 
 pub fn mode_said(m: u64) -> Mode
     ensures { result ≡ mode_said m }
 {
-    if m == 0 {
-        return Mode::N;
+    match m {
+        0 => Mode::N,
+        1 => Mode::D1,
+        _ => Mode::D2,
     }
-    if m == 1 {
-        return Mode::D1;
-    }
-    Mode::D2
 }
 
 // Whether a task of a timed home has it for its degraded server too; of an event home it may have
 // another.
+// Kept: home and degraded are two parameters of the public rows_fault and task_fault, so here too.
 fn stays_home(kind: Kind, home: u64, degraded: u64) -> bool
     ensures { result ≡ stays_home kind home degraded }
 {
-    match kind {
-        Kind::Event => true,
-        Kind::Timed => degraded == home,
-    }
+    kind == Kind::Event || degraded == home
 }
 
-// The rules of a server's row and of a task's row, a flag for each test of the rule, in its order.
+// The rules of a server's row and of a task's row, a test for each of the rule, in its order.
+#[tactic(auto, unfolding(crate::specs::Rules::server_keeps))]
 fn server_keeps(s: Server) -> bool
     ensures { result ≡ every (server_keeps s) }
 {
-    let partition = laws::is_within(0, 15, s.partition as u64);
-    let priority = laws::is_within(1, 255, s.priority as u64);
-    let period = laws::is_within(1, 1000000, s.period.0 as u64);
-    let c = s.capacity;
     laws::all_of(&[
-        partition,
-        priority,
-        period,
-        c.n.0 <= s.period.0,
-        c.d1.0 <= s.period.0,
-        c.d2.0 <= s.period.0,
+        laws::is_within(0, 15, s.partition as u64),
+        laws::is_within(1, 255, s.priority as u64),
+        laws::is_within(1, 1000000, s.period.0 as u64),
+        s.capacity.n.0 <= s.period.0,
+        s.capacity.d1.0 <= s.period.0,
+        s.capacity.d2.0 <= s.period.0,
         s.phase.0 < s.period.0,
     ])
 }
 
+#[tactic(auto, unfolding(crate::specs::Rules::task_keeps))]
 fn task_keeps(k: Task) -> bool
     ensures { result ≡ every (task_keeps k) }
 {
-    let priority = laws::is_within(1, 255, k.priority as u64);
-    let x = k.limit;
-    let n = laws::is_within(1, 100000, x.n.0 as u64);
-    let d1 = laws::is_within(1, 100000, x.d1.0 as u64);
-    let d2 = laws::is_within(1, 100000, x.d2.0 as u64);
-    laws::all_of(&[priority, n, d1, d2])
+    laws::all_of(&[
+        laws::is_within(1, 255, k.priority as u64),
+        laws::is_within(1, 100000, k.limit.n.0 as u64),
+        laws::is_within(1, 100000, k.limit.d1.0 as u64),
+        laws::is_within(1, 100000, k.limit.d2.0 as u64),
+    ])
 }
 
 // The place in the array of the row that a task names, and 0 where the array has no such place, so
 // that there is a row to read before it is known whether the one named is there.
+// Kept: row_in is public, and its contract answers 0 (place_in).
 pub fn row_in(row: u64) -> usize
     ensures { result ≡ place_in row }
 {
     if row < SERVERS as u64 {
-        return row as usize;
+        row as usize
+    } else {
+        0
     }
-    0
+}
+
+// A test that a rule asks: where it does not hold, this is broken, at this field.
+fn asked(holds: bool, why: Refusal, field: usize) -> Result<(), Fault>
+    ensures { result ≡ (unless holds say breaks why field else Ok tt) }
+{
+    if holds {
+        Ok(())
+    } else {
+        Err(Fault { why, field })
+    }
 }
 
 // What a task breaks of the rules on its limits and on the two rows that it names, its home and its
@@ -369,32 +354,21 @@ pub fn rows_fault(
 ) -> Result<(), Fault>
     ensures { result ≡ rows_fault count h d home degraded limit }
 {
-    let base = h.kind;
-    let kind = d.kind;
-    let timed = is_timed(kind);
-    let stays = stays_home(base, home, degraded);
-    if count as u64 <= home {
-        return Err(Fault { why: Refusal::AbsentRow, field: HOME });
-    }
-    if count as u64 <= degraded {
-        return Err(Fault { why: Refusal::AbsentRow, field: DEGRADED });
-    }
-    if d.partition != h.partition {
-        return Err(Fault { why: Refusal::OtherPartition, field: DEGRADED });
-    }
-    if !timed {
-        return Err(Fault { why: Refusal::NotTimed, field: DEGRADED });
-    }
-    if !stays {
-        return Err(Fault { why: Refusal::OtherServer, field: DEGRADED });
-    }
-    if limit.d1.0 < limit.n.0 {
-        return Err(Fault { why: Refusal::Falling, field: LIMIT_D1 });
-    }
-    if limit.d2.0 < limit.d1.0 {
-        return Err(Fault { why: Refusal::Falling, field: LIMIT_D2 });
-    }
-    Ok(())
+    asked(home < count as u64, Refusal::AbsentRow, HOME)?;
+    asked(degraded < count as u64, Refusal::AbsentRow, DEGRADED)?;
+    asked(
+        d.partition == h.partition,
+        Refusal::OtherPartition,
+        DEGRADED,
+    )?;
+    asked(is_timed(d.kind), Refusal::NotTimed, DEGRADED)?;
+    asked(
+        stays_home(h.kind, home, degraded),
+        Refusal::OtherServer,
+        DEGRADED,
+    )?;
+    asked(limit.n.0 <= limit.d1.0, Refusal::Falling, LIMIT_D1)?;
+    asked(limit.d1.0 <= limit.d2.0, Refusal::Falling, LIMIT_D2)
 }
 
 // The same, the rows being among the first count.
@@ -407,7 +381,7 @@ pub fn task_fault(
 ) -> Result<(), Fault>
     ensures { result ≡ task_fault (take count ss) home degraded limit }
 {
-    let n = in_use(count, SERVERS);
+    let n = count.min(SERVERS);
     let i = row_in(home);
     let j = row_in(degraded);
     let h = ss[i];
@@ -416,6 +390,7 @@ pub fn task_fault(
 }
 
 // Whether a task's row keeps the rules beside the first n servers.
+// Kept: the array and its count, as the public task_fault, which is asked, takes them.
 fn task_stands(k: Task, ss: [Server; SERVERS], n: usize) -> bool
     ensures { result ≡ task_stands (take n ss) k }
 {
@@ -427,56 +402,28 @@ fn task_stands(k: Task, ss: [Server; SERVERS], n: usize) -> bool
     is_kept(fault)
 }
 
-// The rows past the count hold nothing that is asked about.
-fn servers_keep(ss: [Server; SERVERS], n: usize) -> bool
-    requires { n ≤ 32 }
-    ensures { result ≡ servers_keep ss n }
+fn servers_keep(ss: &[Server]) -> bool
+    ensures { result ≡ servers_keep ss.now }
 {
-    for i in 0..n {
-        let s = ss[i];
-        if !server_keeps(s) {
-            return false;
-        }
-    }
-    true
+    ss.iter().all(|s| server_keeps(*s))
 }
 
-fn tasks_keep(ks: [Task; TASKS], m: usize, ss: [Server; SERVERS], n: usize) -> bool
-    requires { m ≤ 64 }
-    ensures { result ≡ tasks_keep ks m ss n }
+fn tasks_keep(ks: &[Task], ss: [Server; SERVERS], n: usize) -> bool
+    ensures { result ≡ tasks_keep ks.now (take n ss) }
 {
-    for i in 0..m {
-        let k = ks[i];
-        if !task_stands(k, ss, n) {
-            return false;
-        }
-    }
-    true
+    ks.iter().all(|k| task_stands(*k, ss, n))
 }
 
 // Whether a table keeps the rules of 01, Tables. Counts come first: no row past the arrays is then
-// asked for.
+// asked for, and rows past the counts hold nothing that is asked about.
 pub fn table_keeps(t: Table) -> bool
     ensures { result ≡ table_keeps t }
 {
-    let n = t.nservers;
-    let m = t.ntasks;
-    let tick = t.tick.0;
-    if !laws::is_within(1, SERVERS as u64, n as u64) {
-        return false;
-    }
-    if !laws::is_within(1, TASKS as u64, m as u64) {
-        return false;
-    }
-    let ticks = laws::is_within(1, 10000, tick);
-    let ss = t.servers;
-    let ks = t.tasks;
-    let servers = servers_keep(ss, n);
-    let tasks = tasks_keep(ks, m, ss, n);
-    let sp = equal_servers(ss, n);
-    let tp = equal_tasks(ks, m);
-    let apart = is_differ(sp);
-    let distinct = is_differ(tp);
-    // The two counts are known by now; they keep their places in the rule's list.
-    laws::all_of(&[ticks, true, true, servers, tasks, apart, distinct])
+    laws::is_within(1, SERVERS as u64, t.nservers as u64)
+        && laws::is_within(1, TASKS as u64, t.ntasks as u64)
+        && laws::is_within(1, 10000, t.tick.0)
+        && servers_keep(&t.servers[..t.nservers])
+        && tasks_keep(&t.tasks[..t.ntasks], t.servers, t.nservers)
+        && equal_rows(&t.servers[..t.nservers]).is_none()
+        && equal_rows(&t.tasks[..t.ntasks]).is_none()
 }

@@ -12,7 +12,8 @@ use native.Mathlib.Nat.{mul-le-mul_left, mul-le-mul_right}
 use borrow.Author.Tests.{ltb-true, lt-ltb, leb-true, le-leb}
 use Rattle.laws.specs.Choice.{every, within}
 use Rattle.laws.specs.RoundUp.{up}
-use Rattle.laws.proofs.Choice.{and_true, every_at, within_low, within_high, is_within}
+use Rattle.std.proofs.lemmas.Bool.{and_from}
+use Rattle.laws.proofs.Choice.{every_at, within_low, within_high, is_within}
 use Rattle.laws.proofs.RoundUp.{up_le, le_up, lt_up}
 use Rattle.units.specs.declared.Micros.{Micros}
 use Rattle.table.specs.Rows.{Rows}
@@ -30,7 +31,7 @@ data Hold : List Bool → Type 0 where
 all_hold : {bs : List Bool} → Hold bs → every bs ≡ true
 unfolding every
 all_hold none = refl
-all_hold (◌also◌ {b} {bs} e p) = and_true b (every bs) e (all_hold p)
+all_hold (◌also◌ {b} {bs} e p) = and_from b (every bs) e (all_hold p)
 
 -- a `tick` line
 pub tick_within : (a : Rows) (u : Micros) → every (bounds a (OfTick u)) ≡ true → (1 ≤ u.0) × (u.0 ≤ 10000)

@@ -12,7 +12,9 @@ use lib.ListN.{length, get_or, take}
 use borrow.Author.Tests.{ltb-true, ltb-false}
 use Rattle.laws.specs.Choice.{every, within}
 use Rattle.laws.specs.Search.{least, first_failed}
-use Rattle.laws.proofs.Choice.{clash, if_ind, and_left, and_right, or_cases, within_low, within_high}
+use Rattle.std.specs.Cmp.{first_so, second_so}
+use Rattle.std.proofs.lemmas.Bool.{or_cases}
+use Rattle.laws.proofs.Choice.{clash, if_ind, within_low, within_high}
 use Rattle.laws.proofs.Search.{failed_none}
 use Rattle.decimal.specs.Number.{worth, digits}
 use Rattle.decimal.specs.Lines.{tab, line_feed, split, same}
@@ -344,9 +346,9 @@ back_all es [] l h = refl
 back_all [] (f ∷ fs) l h = absurd (omega arith)
 back_all (e ∷ es) (f ∷ fs) l h =
     rw (
-      back_fits e f (and_left (fits e f) (every (field_tests es fs)) h),
+      back_fits e f (first_so (fits e f) (every (field_tests es fs)) h),
       back_next (take (length fs) es) 0 f fs,
-      back_all es fs (omega arith) (and_right (fits e f) (every (field_tests es fs)) h),
+      back_all es fs (omega arith) (second_so (fits e f) (every (field_tests es fs)) h),
     )
 
 -- how many fields have a form, and n of them that do
@@ -355,7 +357,7 @@ pub form_count : (form : Form) (fs : List (List ℕ)) → Has form fs →
 unfolding form_tests every
 form_count form fs h =
     let m = length form.fields in
-    let p = and_left (within form.least m (length fs)) (every (field_tests form.fields fs)) h in
+    let p = first_so (within form.least m (length fs)) (every (field_tests form.fields fs)) h in
     (within_low form.least m (length fs) p, within_high form.least m (length fs) p)
 
 form_back : (form : Form) (fs : List (List ℕ)) (n : ℕ) → length fs ≡ n → Has form fs →
@@ -364,7 +366,7 @@ unfolding form_tests every
 form_back form fs n e h =
     let c = within form.least (length form.fields) (length fs) in
     let t = every (field_tests form.fields fs) in
-    rw (← e) (back_all form.fields fs (form_count form fs h).1 (and_right c t h))
+    rw (← e) (back_all form.fields fs (form_count form fs h).1 (second_so c t h))
 
 -- a server's line goes on to its last field or ends before it
 server_fields : (fs : List (List ℕ)) → Has server_form fs → fields_of (OfServer (server_said fs)) ≡ server_word ∷ fs

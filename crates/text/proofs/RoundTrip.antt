@@ -13,7 +13,9 @@ use native.Mathlib.Omega.{arith}
 use lib.ListN.{length, replicate, length-append, length-map, length-replicate}
 use lib.Seq.{take-append_seam}
 use borrow.Author.Tests.{le-leb}
-use Rattle.laws.proofs.Choice.{and_true, and_left, and_right, is_within}
+use Rattle.std.proofs.lemmas.Bool.{and_from}
+use Rattle.std.specs.Cmp.{first_so, second_so}
+use Rattle.laws.proofs.Choice.{is_within}
 use Rattle.decimal.specs.Lines.{line_feed, split, closed, same}
 use Rattle.decimal.proofs.Lines.{AllUpTo, closed_length, lacks, all_lack, split_closed, closed_split}
 use Rattle.table.specs.declared.Table.{Table}
@@ -38,7 +40,7 @@ lines_lack : (xs : List Line) → all_lack line_feed (map write_line xs) ≡ tru
 unfolding all_lack
 lines_lack [] = refl
 lines_lack (x ∷ xs) =
-    and_true (lacks line_feed (write_line x)) (all_lack line_feed (map write_line xs)) (line_lacks x) (lines_lack xs)
+    and_from (lacks line_feed (write_line x)) (all_lack line_feed (map write_line xs)) (line_lacks x) (lines_lack xs)
 
 read_written : (xs : List Line) → AllWritable xs → map read_line (map write_line xs) ≡ xs
 read_written [] w = refl
@@ -124,8 +126,8 @@ whole_stay t h (l ∷ ls) e z =
     let q = phase_not_zero (read_line l) in
     let qs = all_lines phase_not_zero (ls ++ ([] ∷ [])) in
     rw (
-      whole_stays t h (read_line l) (and_left p ps e) (and_left q qs z),
-      whole_stay t h ls (and_right p ps e) (and_right q qs z),
+      whole_stays t h (read_line l) (first_so p ps e) (first_so q qs z),
+      whole_stay t h ls (second_so p ps e) (second_so q qs z),
     )
 
 -- what is so of each line that stays as it stands, and of none
@@ -136,7 +138,7 @@ stay_all p t none each [] e = rw (nothing_said, none)
 stay_all p t none each (l ∷ ls) e =
     let q : rounded t (read_line l) ≡ read_line l = cc in
     let r : map (rounded t) (map read_line ls) ≡ map read_line ls = cc in
-    and_true (p (read_line l)) (all_lines p (ls ++ ([] ∷ []))) (each (read_line l) q) (stay_all p t none each ls r)
+    and_from (p (read_line l)) (all_lines p (ls ++ ([] ∷ []))) (each (read_line l) q) (stay_all p t none each ls r)
 
 -- two texts of lines are equal exactly if the lines are
 same_lines : (xs ys : List Line) → AllWritable xs → AllWritable ys →

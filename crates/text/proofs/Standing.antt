@@ -15,7 +15,8 @@ use lib.Seq.{get_or-append_seam}
 use borrow.Author.Tests.{eqb-true, leb-true, ltb-true, le-leb, lt-ltb}
 use Rattle.laws.specs.Choice.{unless◌say◌else◌, every, within}
 use Rattle.laws.specs.Search.{first_failed}
-use Rattle.laws.proofs.Choice.{clash, and_right, every_at, within_low, within_high, is_within, le_or_lt}
+use Rattle.std.specs.Cmp.{second_so}
+use Rattle.laws.proofs.Choice.{clash, every_at, within_low, within_high, is_within, le_or_lt}
 use Rattle.laws.proofs.RoundUp.{div_mono}
 use Rattle.laws.proofs.Search.{failed_none}
 use Rattle.units.specs.declared.Micros.{Micros}
@@ -85,7 +86,7 @@ keeps_standing n a l k =
 -- the bounds of a task are its room and table's own rule
 pub task_keeps_lem : (rows t : ℕ) (k : TaskLine) → every (task_bounds rows t k) ≡ true → every (task_keeps (task_of t k)) ≡ true
 unfolding task_bounds task_keeps every
-task_keeps_lem rows t k e = and_right (ltb rows 64) (every (task_keeps (task_of t k))) e
+task_keeps_lem rows t k e = second_so (ltb rows 64) (every (task_keeps (task_of t k))) e
 
 pub task_bounded : (rows t : ℕ) (k : TaskLine) → rows < 64 → every (task_keeps (task_of t k)) ≡ true →
     every (task_bounds rows t k) ≡ true
@@ -209,7 +210,7 @@ not_nil (x ∷ xs) h = refl
 
 no_task_lem : (a : Rows) (n : ℕ) (s : ServerLine) → Keeps n a (OfServer s) → a.tasks ≡ []
 unfolding placed
-no_task_lem a n s k = is_nil_lem a.tasks (and_right (ltb 1 n) (is_nil a.tasks) k.stands)
+no_task_lem a n s k = is_nil_lem a.tasks (second_so (ltb 1 n) (is_nil a.tasks) k.stands)
 
 pub server_line_lem : (n : ℕ) (a : Rows) (s : ServerLine) → Good a → Keeps n a (OfServer s) → Good (grown a (OfServer s))
 unfolding bounds wholes grown

@@ -31,6 +31,7 @@ pub struct TaskLine {
 }
 
 // The leading word of a line: which kind of line it begins, or none.
+// Kept: an unknown word is judged like the others (is_placed): an Option would be opened twice.
 #[derive(Clone, Copy)]
 pub enum Word {
     ATick,
@@ -41,6 +42,7 @@ pub enum Word {
 
 // What a line says, nothing of it judged but its form: a malformed one has its leading word and the
 // first field that is wrong, from 1, or 0 for an unknown word or a wrong count of fields.
+// Kept: a malformed line is judged by its place first, by its word; a frame box has other lines.
 #[derive(Clone, Copy)]
 pub enum Line {
     OfTick(Micros),
@@ -51,6 +53,7 @@ pub enum Line {
 
 // Why a text is no table. Lines count from 1, and 0 is the text itself; fields count from 1 after the
 // leading word, and 0 is the line itself.
+// Kept: 0 for the text or for the line itself: 02, No. 2, has it so (README.md).
 #[derive(Clone, Copy)]
 pub enum ReadError {
     Refused {

@@ -11,7 +11,8 @@ use lib.ListN.{length, get_or, take, drop}
 use lib.Seq.{take-suc, take_at}
 use borrow.Author.Tests.{le-leb, lt-leb}
 use Rattle.laws.specs.Choice.{within}
-use Rattle.laws.proofs.Choice.{and_left, and_right, within_high}
+use Rattle.std.specs.Cmp.{first_so, second_so}
+use Rattle.laws.proofs.Choice.{within_high}
 use Rattle.decimal.specs.Lines.{tab, join, closed}
 use Rattle.decimal.specs.Room.{Put}
 use Rattle.decimal.proofs.Room.{put_as, put_fits, put_lines, put_more, put_none}
@@ -30,20 +31,15 @@ use Rattle.text.proofs.Allowed.{keeps_rows}
 use Rattle.text.proofs.RoundTrip.{written_fits}
 
 -- what the writer needs of a table that keeps the rules
-pub few_servers : (t : Table) → table_keeps t ≡ true → t.nservers ≤ 32
+pub bounds : (t : Table) → table_keeps t ≡ true → (t.nservers ≤ 32) × (t.ntasks ≤ 64) × (t.tick.0 ≤ 10000)
 unfolding table_keeps
-few_servers t e =
-    within_high 1 32 t.nservers (and_left (within 1 32 t.nservers) (within 1 64 t.ntasks && keeps (rows_of t)) e)
-
-pub few_tasks : (t : Table) → table_keeps t ≡ true → t.ntasks ≤ 64
-unfolding table_keeps
-few_tasks t e =
-    let m = within 1 64 t.ntasks in
-    within_high 1 64 t.ntasks
-    (and_left m (keeps (rows_of t)) (and_right (within 1 32 t.nservers) (m && keeps (rows_of t)) e))
-
-pub short_tick : (t : Table) → table_keeps t ≡ true → t.tick.0 ≤ 10000
-short_tick t e = (keeps_rows (rows_of t) (rows_keep t e)).good.high
+bounds t e =
+    let n = within 1 32 t.nservers in
+    let m = within 1 64 t.ntasks in (
+      within_high 1 32 t.nservers (first_so n (m && keeps (rows_of t)) e),
+      within_high 1 64 t.ntasks (first_so m (keeps (rows_of t)) (second_so n (m && keeps (rows_of t)) e)),
+      (keeps_rows (rows_of t) (rows_keep t e)).good.high,
+    )
 
 -- fields that follow others: those before them, and from a tab on
 join_behind : (b : ℕ) (p : List ℕ) (ps qs : List (List ℕ)) →
@@ -96,11 +92,11 @@ module _ {d : List ℕ} {at : ℕ} {e : List ℕ} {k : ℕ} {g : List ℕ} {r : 
   unfolding task_lines
   put_next_task t = put_next (λ x. OfTask (task_back t x)) no_task
 
-pub no_servers : (t : Table) (d : List ℕ) (at : ℕ) → Put (closed (map write_line (server_lines t.tick.0 []))) d at d at
+pub no_servers : (t : ℕ) (d : List ℕ) (at : ℕ) → Put (closed (map write_line (server_lines t []))) d at d at
 unfolding server_lines closed
 no_servers t d at = put_none d at
 
-pub no_tasks : (t : Table) (d : List ℕ) (at : ℕ) → Put (closed (map write_line (task_lines t.tick.0 []))) d at d at
+pub no_tasks : (t : ℕ) (d : List ℕ) (at : ℕ) → Put (closed (map write_line (task_lines t []))) d at d at
 unfolding task_lines closed
 no_tasks t d at = put_none d at
 

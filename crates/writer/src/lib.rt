@@ -19,6 +19,10 @@ use table::{ByMode, Kind, Level, Refusal, Server, Table, Task};
 use text::LONGEST_TEXT;
 use units::{Micros, Ticks};
 
+// Kept: rows are put byte by byte, since a Display cannot leave out what lacks room, as Put says.
+// Kept: room and place are two parameters, as of decimal's public put_byte, put_all and put_number.
+// Kept: a tick is a Micros, which document 01 names, so that it is at most 10,000 is asked here.
+
 // "text holds microseconds, a run holds ticks"
 fn in_micros(x: Ticks, tick: Micros) -> Micros
     requires { tick.0 ≤ 10000 }
@@ -35,11 +39,11 @@ fn phase_back(x: Ticks, tick: Micros) -> Option<Micros>
     if x.0 == 0 {
         return None;
     }
-    let u = in_micros(x, tick);
-    Some(u)
+    Some(in_micros(x, tick))
 }
 
 // A number and the tab after it.
+// Kept: put_field: a tab before or behind, as each page has it; two lines need no public function.
 fn put_field(n: u64, room: &mut [u8], at: usize) -> usize
     ensures { Put (digits n ++ (tab ∷ [])) room.old at room.new result }
 {
@@ -47,6 +51,7 @@ fn put_field(n: u64, room: &mut [u8], at: usize) -> usize
     put_byte(b'\t', room, k)
 }
 
+#[tactic(auto, unfolding(text::specs::Words::event_word, text::specs::Words::timed_word))]
 fn put_kind(kind: Kind, room: &mut [u8], at: usize) -> usize
     ensures { Put (kind_word kind ++ (tab ∷ [])) room.old at room.new result }
 {
@@ -70,8 +75,7 @@ fn put_time(x: Ticks, tick: Micros, room: &mut [u8], at: usize) -> usize
     requires { tick.0 ≤ 10000 }
     ensures { Put (digits (in_micros tick.0 x).0 ++ (tab ∷ [])) room.old at room.new result }
 {
-    let u = in_micros(x, tick);
-    put_field(u.0, room, at)
+    put_field(in_micros(x, tick).0, room, at)
 }
 
 // A time for each mode, the last with no tab after it.
@@ -79,13 +83,9 @@ fn put_times(x: ByMode<Ticks>, tick: Micros, room: &mut [u8], at: usize) -> usiz
     requires { tick.0 ≤ 10000 }
     ensures { Put (join tab (times_fields (times_back tick.0 x))) room.old at room.new result }
 {
-    let n = x.n;
-    let d1 = x.d1;
-    let d2 = x.d2;
-    let k = put_time(n, tick, room, at);
-    let k = put_time(d1, tick, room, k);
-    let u = in_micros(d2, tick);
-    put_number(u.0, room, k)
+    let k = put_time(x.n, tick, room, at);
+    let k = put_time(x.d1, tick, room, k);
+    put_number(in_micros(x.d2, tick).0, room, k)
 }
 
 // Behind the fields before it: a tab and the last field, or nothing where it is absent.
@@ -106,17 +106,13 @@ fn put_server(s: Server, tick: Micros, room: &mut [u8], at: usize) -> usize
     ensures { Put (closed (write_line (OfServer (server_back tick.0 s)) ∷ []))
         room.old at room.new result }
 {
-    let kind = s.kind;
-    let period = s.period;
-    let capacity = s.capacity;
-    let last = phase_back(s.phase, tick);
     let k = put_all(b"server\t", room, at);
     let k = put_field(s.partition as u64, room, k);
-    let k = put_kind(kind, room, k);
+    let k = put_kind(s.kind, room, k);
     let k = put_field(s.priority as u64, room, k);
-    let k = put_time(period, tick, room, k);
-    let k = put_times(capacity, tick, room, k);
-    let k = put_last(last, room, k);
+    let k = put_time(s.period, tick, room, k);
+    let k = put_times(s.capacity, tick, room, k);
+    let k = put_last(phase_back(s.phase, tick), room, k);
     put_byte(b'\n', room, k)
 }
 
@@ -125,62 +121,56 @@ fn put_task(x: Task, tick: Micros, room: &mut [u8], at: usize) -> usize
     ensures { Put (closed (write_line (OfTask (task_back tick.0 x)) ∷ []))
         room.old at room.new result }
 {
-    let level = x.level;
-    let limit = x.limit;
     let k = put_all(b"task\t", room, at);
     let k = put_field(x.home as u64, room, k);
     let k = put_field(x.degraded as u64, room, k);
     let k = put_field(x.priority as u64, room, k);
-    let k = put_level(level, room, k);
-    let k = put_times(limit, tick, room, k);
+    let k = put_level(x.level, room, k);
+    let k = put_times(x.limit, tick, room, k);
     put_byte(b'\n', room, k)
 }
 
-fn put_servers(t: Table, room: &mut [u8], at: usize) -> usize
-    requires { table_keeps t ≡ true }
-    ensures { Put (closed (map write_line (server_lines t.tick.0 (rows_of t).servers)))
+// Kept: put_servers and put_tasks are a loop each; a trait of rows to put is longer than both.
+fn put_servers(ss: &[Server], tick: Micros, room: &mut [u8], at: usize) -> usize
+    requires { tick.0 ≤ 10000 }
+    ensures { Put (closed (map write_line (server_lines tick.0 ss.now)))
         room.old at room.new result }
 {
-    let tick = t.tick;
-    let n = t.nservers;
     let mut k = at;
-    for i in 0..n {
-        let s = t.servers[i];
-        k = put_server(s, tick, room, k);
+    for s in ss {
+        k = put_server(*s, tick, room, k);
     }
     k
 }
 
-fn put_tasks(t: Table, room: &mut [u8], at: usize) -> usize
-    requires { table_keeps t ≡ true }
-    ensures { Put (closed (map write_line (task_lines t.tick.0 (rows_of t).tasks)))
+fn put_tasks(ks: &[Task], tick: Micros, room: &mut [u8], at: usize) -> usize
+    requires { tick.0 ≤ 10000 }
+    ensures { Put (closed (map write_line (task_lines tick.0 ks.now)))
         room.old at room.new result }
 {
-    let tick = t.tick;
-    let n = t.ntasks;
     let mut k = at;
-    for i in 0..n {
-        let x = t.tasks[i];
-        k = put_task(x, tick, room, k);
+    for x in ks {
+        k = put_task(*x, tick, room, k);
     }
     k
 }
 
 // The whole text, from the start of the room on.
+#[tactic(auto, using(crate::proofs::Write::bounds))]
 fn put_table(t: Table, room: &mut [u8]) -> usize
     requires { table_keeps t ≡ true }
     ensures { Put (write (rows_of t)) room.old 0 room.new result }
 {
-    let tick = t.tick;
     let k = put_all(b"tick\t", room, 0);
-    let k = put_number(tick.0, room, k);
+    let k = put_number(t.tick.0, room, k);
     let k = put_byte(b'\n', room, k);
-    let k = put_servers(t, room, k);
-    put_tasks(t, room, k)
+    let k = put_servers(&t.servers[..t.nservers], t.tick, room, k);
+    put_tasks(&t.tasks[..t.ntasks], t.tick, room, k)
 }
 
 // "Others: 13 first"; 12, "lent room shorter than the text": the text is made in a room of its own,
 // so that a refused writer leaves the lent room as it was.
+// Kept: no heap: that room is an array, and how many bytes of it are in use stands beside it.
 pub fn write_table(t: Table, room: &mut [u8]) -> Result<usize, Refusal>
     ensures { record { answer = result; room = room.new } ≡ wrote t room.old }
 {

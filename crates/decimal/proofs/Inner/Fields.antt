@@ -5,7 +5,8 @@ use lib.Arith.{lt_of_le-ne}
 use Rattle.decimal.specs.Lines.{tab, line_feed, to_first, split, index_of}
 use Rattle.decimal.specs.Inner.Fields.{first_line, fields_from, first_field, field_end}
 use Rattle.decimal.specs.Number.{is_number}
-use Rattle.laws.proofs.Choice.{is_false, le_or_lt}
+use Rattle.std.proofs.lemmas.Bool.{false_from_ne_true}
+use Rattle.laws.proofs.Choice.{le_or_lt}
 use Rattle.decimal.proofs.Numbers.{digit_at, number_is_digits}
 use Rattle.decimal.proofs.Lines.{index_cut, index_last, Finds, cut_at, last_at_lem, split_some, split_here, split_on}
 
@@ -207,7 +208,7 @@ field_all s e = field_taken s 0 ∙ take_all (length (first_field s 0)) s (omega
 
 pub field_not_all : (s : List ℕ) → ((field_end s 0).at ≡ length s → ⊥) → is_number s ≡ false
 unfolding field_end
-field_not_all s e = is_false (is_number s) (λ p. omega (arith, digit_at s m (number_is_digits s p) l, (front s).1 l))
+field_not_all s e = false_from_ne_true (is_number s) (λ p. omega (arith, digit_at s m (number_is_digits s p) l, (front s).1 l))
   where
     m : ℕ
     m = length (first_field s 0)

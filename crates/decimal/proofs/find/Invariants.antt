@@ -6,4 +6,5 @@ use Rattle.decimal.proofs.find.Given as goal
 
 abbrev pub invariant-loop-i : goal.invariant-loop-i
 invariant-loop-i l =
-    l.at + index_of l.b (slice l.at (length l.text) l.text) ≡ l.i + index_of l.b (slice l.i (length l.text) l.text)
+    l.at + index_of l.b (slice l.at (length l.text) l.text)
+    ≡ l.at + l.i + index_of l.b (slice (l.at + l.i) (length l.text) l.text)

@@ -6,4 +6,4 @@ use Rattle.slots.proofs.owner_of.Goals as goal
 
 pub returns : goal.returns
 returns c =
-    c.slot_in.ensures ∙ owner_in _ c.args.tick c.the_frame-frame.ensures
+    c.slot_in.ensures ∙ owner_in _ c.args.tick c.the_frame.ensures

@@ -31,5 +31,5 @@ returns c =
     let a = c.args in
     c.rows_fault.ensures
     ∙ rw (c.row_in-i.ensures, c.row_in-j.ensures)
-    (rows_read a.ss a.count c.in_use-n.result a.home a.degraded a.limit
-    (omega arith) c.in_use-n.ensures)
+    (rows_read a.ss a.count c.min-n.result a.home a.degraded a.limit
+    (omega arith) c.min-n.ensures)

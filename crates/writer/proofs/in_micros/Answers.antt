@@ -8,5 +8,5 @@ use Rattle.writer.proofs.in_micros.Goals as goal
 pub overflow_mul-result : goal.overflow_mul-result
 overflow_mul-result c =
     let a = c.args in
-    let h : a.x.0 ≤ 4294967296 = omega (arith, c.struct_known-1.given) in
+    let h : a.x.0 ≤ 4294967296 = omega arith in
     record { fits = omega (arith, mul-le-mul h c.requires) }

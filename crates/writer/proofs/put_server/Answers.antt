@@ -27,7 +27,7 @@ returns c =
     (put_field (digits s.period.0) (field_at ys 1) (field_at ys 2 ∷ field_at ys 3 ∷ zs) c.put_time-k.ensures
     (put_last (join tab xs)
     (put_behind (field_at ys 1) (field_at ys 2 ∷ field_at ys 3 ∷ []) zs c.put_times-k.ensures
-    (put_as (ap (λ c. join tab ([] ∷ last_fields c)) c.phase_back-last.ensures) c.put_last-k.ensures))
+    (put_as (ap (λ c. join tab ([] ∷ last_fields c)) c.phase_back.ensures) c.put_last-k.ensures))
     c.put_byte.ensures)))))
 
 pub shape_of-room : goal.shape_of-room

@@ -1,54 +1,13 @@
 -- `writer::put_tasks` meets its contract: before row i the lines of the first i rows are put.
 -- Assumes nothing.
-use mathlib.Core.Path.{◌≡◌}
-use mathlib.Core.List.{map}
-use Prim.Native.Nat.{◌<◌}
 use native.Mathlib.Omega.{arith}
-use lib.ListN.{length, take}
-use Rattle.decimal.specs.Lines.{closed}
-use Rattle.decimal.proofs.Room.{put_length}
-use Rattle.text.specs.Line.{write_line}
-use Rattle.text.specs.Write.{task_lines}
-use Rattle.writer.proofs.Write.{few_tasks, short_tick, put_next_task, no_tasks}
+use Rattle.writer.proofs.Write.{put_next_task, no_tasks}
 use Rattle.writer.proofs.put_tasks.Goals as goal
 
-pub loop-i-init : goal.loop-i-init
-loop-i-init c = let a = c.args in (omega arith, no_tasks a.t a.room.now a.at)
+pub loop-x-init : goal.loop-x-init
+loop-x-init c = let a = c.args in no_tasks a.tick.0 a.room.now a.at
 
-pub offset_bounds-t-i : goal.offset_bounds-t-i
-offset_bounds-t-i c = omega (arith, few_tasks c.args.t c.requires)
-
-pub bounds-t-i : goal.bounds-t-i
-bounds-t-i c =
-    omega (arith, few_tasks c.args.t c.requires)
-
-pub put_task-k-requires : goal.put_task-k-requires
-put_task-k-requires c =
-    short_tick c.args.t
-    c.requires
-
-pub loop-i-preserved : goal.loop-i-preserved
-loop-i-preserved c =
-    let t = c.args.t in
-    let long : length t.tasks ≡ 64 = omega arith in
-    let h : c.loop-i.i < t.ntasks = c.loop-i-test.true in (
-      omega arith,
-      put_next_task t.tick.0 t.tasks c.loop-i.i (omega (arith, few_tasks t c.requires)) c.loop-i.invariant.1
-          c.put_task-k.ensures,
-    )
-
-pub shape_of-room : goal.shape_of-room
-shape_of-room c =
-    let l = c.loop-i in
-    let t = c.args.t in
-    put_length (closed (map write_line (task_lines t.tick.0 (take l.i t.tasks)))) l.invariant.1
-
-pub returns : goal.returns
-returns c =
-    let a = c.args in
-    let l = c.loop-i in
-    let e : l.i ≡ a.t.ntasks = omega (arith, c.loop-i-test.false) in
-    rw (← e) l.invariant.1
-
-pub loop-i-smaller : goal.loop-i-smaller
-loop-i-smaller c = omega arith
+pub loop-x-preserved : goal.loop-x-preserved
+loop-x-preserved c =
+    put_next_task c.args.tick.0 c.args.ks.now c.loop-x.x-index (omega arith) c.loop-x.invariant
+    c.put_task-k.ensures

@@ -8,4 +8,4 @@ use Rattle.writer.proofs.put_time.Goals as goal
 
 pub returns : goal.returns
 returns c =
-    put_as (ap (λ x. digits x.0 ++ (tab ∷ [])) c.in_micros-u.ensures) c.put_field.ensures
+    put_as (ap (λ x. digits x.0 ++ (tab ∷ [])) c.in_micros.ensures) c.put_field.ensures

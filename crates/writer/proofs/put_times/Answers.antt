@@ -19,4 +19,4 @@ returns c =
     let w = digits x.d2.0 in
     put_joined u v (w ∷ []) c.put_time-k.ensures
     (put_joined v w [] c.put_time-k-2.ensures
-    (put_as (ap (λ y. digits y.0) c.in_micros-u.ensures) c.put_number.ensures))
+    (put_as (ap (λ y. digits y.0) c.in_micros.ensures) c.put_number.ensures))

@@ -11,9 +11,9 @@ use Rattle.table.specs.Rules.{table_keeps}
 use Rattle.text.specs.Write.{write}
 use Rattle.writer.proofs.Write.{wrote_unsound, wrote_short, wrote_all, made}
 use Rattle.writer.proofs.write_table.Goals as goal
-use Rattle.writer.proofs.write_table.Goals.{After-put_table-many, After-text-1}
+use Rattle.writer.proofs.write_table.Goals.{After-put_table-many, Else-not-table_keeps}
 
-sound : (c : After-text-1) → table_keeps c.args.t ≡ true
+sound : (c : Else-not-table_keeps) → table_keeps c.args.t ≡ true
 sound c = sym c.table_keeps.ensures ∙ c.if-not-table_keeps.false
 
 record Made (c : After-put_table-many) : Type 0 where
@@ -33,12 +33,12 @@ returns-then-not-table_keeps c =
     wrote_unsound a.t a.room.now (sym c.table_keeps.ensures ∙ c.if-not-table_keeps.true)
 
 pub put_table-many-requires : goal.put_table-many-requires
-put_table-many-requires c = sound (goal.at.put_table-many-requires c).After-text-1
+put_table-many-requires c = sound (goal.at.put_table-many-requires c).Else-not-table_keeps
 
 pub returns-then-room-many : goal.returns-then-room-many
 returns-then-room-many c =
     let a = c.args in
-    wrote_short a.t a.room.now (sound (goal.at.returns-then-room-many c).After-text-1) (is_made (goal.at.returns-then-room-many c).After-put_table-many).many c.if-room-many.true
+    wrote_short a.t a.room.now (sound (goal.at.returns-then-room-many c).Else-not-table_keeps) (is_made (goal.at.returns-then-room-many c).After-put_table-many).many c.if-room-many.true
 
 pub slice_bounds-text-end : goal.slice_bounds-text-end
 slice_bounds-text-end c =
@@ -51,4 +51,4 @@ slice_bounds-put_all-end c =
 pub returns : goal.returns
 returns c =
     let a = c.args in
-    wrote_all a.t (sound (goal.at.returns c).After-text-1) (is_made (goal.at.returns c).After-put_table-many).many (is_made (goal.at.returns c).After-put_table-many).text c.if-room-many.false c.put_all.ensures
+    wrote_all a.t (sound (goal.at.returns c).Else-not-table_keeps) (is_made (goal.at.returns c).After-put_table-many).many (is_made (goal.at.returns c).After-put_table-many).text c.if-room-many.false c.put_all.ensures

@@ -1,9 +1,0 @@
--- `writer::phase_back` meets its contract: the phase is 0 or it is not. Assumes nothing.
-use borrow.Author.Tests.{eq-eqb, ne_eqb}
-use Rattle.writer.proofs.phase_back.Goals as goal
-
-pub returns-then-x-eq0 : goal.returns-then-x-eq0
-returns-then-x-eq0 c = rw (eq-eqb _ 0 c.if-x-eq0.true)
-
-pub returns : goal.returns
-returns c = rw (ne_eqb _ 0 c.if-x-eq0.false, c.in_micros-u.ensures)
