@@ -10,13 +10,12 @@ use run::Run;
 use table::Refusal;
 use verdict::Fits;
 
+#[tactic(auto, unfolding(crate::specs::Fits::run_fits))]
 pub fn run_fits(r: Run) -> Fits
     ensures { result ≡ run_fits r }
 {
-    let t = r.table;
-    let s = r.state;
-    if !soundness::run_sound(t, s) {
+    if !soundness::run_sound(r.table, r.state) {
         return Fits::No(Refusal::Unsound);
     }
-    verdict::fits_of(t)
+    verdict::fits_of(r.table)
 }

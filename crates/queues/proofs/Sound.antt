@@ -12,7 +12,9 @@ use lib.ListN.{length}
 use borrow.Author.Tests.{ltb-true, leb-true, eqb-true, lt-ltb, le-ltb, le-leb, eq-eqb}
 use Rattle.laws.specs.Choice.{every}
 use Rattle.laws.specs.Rows.{sum_below}
-use Rattle.laws.proofs.Choice.{le_or_lt, and_true, and_left, and_right, or_cases, or_true_left, or_true_right, every_at}
+use Rattle.std.proofs.lemmas.Bool.{and_from, or_cases, or_left, or_right}
+use Rattle.std.specs.Cmp.{first_so, second_so}
+use Rattle.laws.proofs.Choice.{le_or_lt, every_at}
 use Rattle.events.specs.declared.Turn.{Turn}
 use Rattle.events.specs.declared.Turn.TheVariants.{Run as Ran, Empty, Idle}
 use Rattle.events.specs.Answers.{ran}
@@ -59,7 +61,7 @@ front_some limit w c last e h = go (or_cases below (last && at) (rw (lt-ltb 0 w 
 
     go : (below ≡ true) ⊎ ((last && at) ≡ true) → (c < limit) ⊎ ((last ≡ true) × (c ≡ limit))
     go (inl p) = inl (ltb-true c limit p)
-    go (inr p) = inr (and_left last at p, eqb-true c limit (and_right last at p))
+    go (inr p) = inr (first_so last at p, eqb-true c limit (second_so last at p))
 
 pub queue_facts : (limit w c : ℕ) (last : Bool) → every (queue_sound limit w c last) ≡ true → QueueSound limit w c last
 queue_facts limit w c last e =
@@ -102,8 +104,8 @@ front_test limit w c last f = go (le_or_lt w 0)
     at = eqb c limit
 
     some : (c < limit) ⊎ ((last ≡ true) × (c ≡ limit)) → (below || (last && at)) ≡ true
-    some (inl p) = or_true_left below (last && at) (lt-ltb c limit p)
-    some (inr p) = or_true_right below (last && at) (and_true last at p.0 (eq-eqb c limit p.1))
+    some (inl p) = or_left below (last && at) (lt-ltb c limit p)
+    some (inr p) = or_right below (last && at) (and_from last at p.0 (eq-eqb c limit p.1))
 
     go : (w ≤ 0) ⊎ (0 < w) → front_sound limit w c last ≡ true
     go (inl h) = rw (le-ltb 0 w h) (eq-eqb c 0 (f.none (omega arith)))

@@ -1,10 +1,12 @@
-// The queues of a run's tasks, whichever box they are in: of each task how many jobs wait, and the run
-// count of the front one. (01, What one tick does.) They are lent as two arrays; what a step makes of
-// them is in specs/Queues.antt, and when they are sound in specs/Sound.antt.
+// The queues of a run's tasks, whichever box they are in: of each task how many jobs wait, and the
+// run count of the front one. (01, What one tick does.) They are lent as two arrays; what a step
+// makes of them is in specs/Queues.antt, and when they are sound in specs/Sound.antt.
+//
+// Kept: n, waiting and runs, and a queue's four numbers, apart: public (docs/FUNCTIONS.md).
 
 #![tactic(auto)]
 
-ghost use Rattle.std.specs.Prelude.{◌≡◌, get_or, ◌-◌, ◌<◌, min};
+ghost use Rattle.std.specs.Prelude.{◌≡◌, get_or, ◌<◌};
 ghost use Rattle.laws.specs.Choice.{every};
 ghost use Rattle.laws.specs.Rows.{sum_below};
 ghost use Rattle.queues.specs.Queues.{is_last, ran_job};
@@ -19,7 +21,8 @@ pub const QUEUE: u8 = 16;
 // At most so many ticks are taken, and as many releases accepted.
 pub const MOST: u32 = 4000000000;
 
-// The last-run job is told by its task: none where the last taken tick ran no job, or none was taken.
+// The last-run job is told by its task: none where the last taken tick ran no job, or none was
+// taken.
 pub fn is_last(last: Option<usize>, k: usize) -> bool
     ensures { result ≡ is_last last k }
 {
@@ -32,53 +35,35 @@ pub fn ran_job(last: Option<usize>) -> bool
     last.is_some()
 }
 
-// "A release adds one job at the back of its task's queue". A queue that is full stays as it is, and
-// so do they all where there is no such row.
+// "A release adds one job at the back of its task's queue". A queue that is full stays as it is,
+// and so do they all where there is no such row.
 pub fn join(k: usize, waiting: &mut [u8; TASKS])
     ensures { waiting.new ≡ joined_waiting waiting.old k }
 {
-    if TASKS <= k {
-        return;
+    if k < TASKS && waiting[k] < QUEUE {
+        waiting[k] += 1;
     }
-    if QUEUE <= waiting[k] {
-        return;
-    }
-    waiting[k] = waiting[k] + 1;
 }
 
-// One job fewer waits; of none there is none fewer.
-fn fewer(w: u8) -> u8
-    ensures { result ≡ w - 1 }
-{
-    if w == 0 {
-        return 0;
-    }
-    w - 1
-}
-
-// The front job of task k leaves, and the next one's count starts at 0.
+// The front job of task k leaves, and the next one's count starts at 0. Of no jobs there is none
+// fewer.
 pub fn leave(k: usize, waiting: &mut [u8; TASKS], runs: &mut [u32; TASKS])
     ensures { (waiting.new ≡ left_waiting waiting.old k)
         × (runs.new ≡ left_runs runs.old k) }
 {
-    if TASKS <= k {
-        return;
+    if k < TASKS {
+        waiting[k] = waiting[k].saturating_sub(1);
+        runs[k] = 0;
     }
-    waiting[k] = fewer(waiting[k]);
-    runs[k] = 0;
 }
 
 // "runs the front job: run count plus 1". A count that 32 bits no longer hold stays as it is.
 pub fn run_front(k: usize, runs: &mut [u32; TASKS])
     ensures { runs.new ≡ ran_once runs.old k }
 {
-    if TASKS <= k {
-        return;
+    if k < TASKS {
+        runs[k] = runs[k].saturating_add(1);
     }
-    if u32::MAX <= runs[k] {
-        return;
-    }
-    runs[k] = runs[k] + 1;
 }
 
 fn front_sound(limit: u32, waiting: u8, runs: u32, last: bool) -> bool
@@ -87,13 +72,7 @@ fn front_sound(limit: u32, waiting: u8, runs: u32, last: bool) -> bool
     if waiting == 0 {
         return runs == 0;
     }
-    if runs < limit {
-        return true;
-    }
-    if last {
-        return runs == limit;
-    }
-    false
+    runs < limit || last && runs == limit
 }
 
 // Whether the queue of a task with this limit is sound; `last` says whether it is the last-run one.
@@ -108,27 +87,16 @@ pub fn queue_sound(limit: u32, waiting: u8, runs: u32, last: bool) -> bool
 pub fn job_count(x: u8) -> u32
     ensures { (result ≡ x) × (result < 256) }
 {
-    x as u32
-}
-
-// So many rows at most stand in an array.
-fn in_use(n: usize) -> usize
-    ensures { result ≡ min n 64 }
-{
-    if n < TASKS {
-        return n;
-    }
-    TASKS
+    u32::from(x)
 }
 
 // How many jobs of the first n tasks wait.
 pub fn jobs_waiting(n: usize, waiting: [u8; TASKS]) -> u32
     ensures { result ≡ sum_below n (λ k. get_or waiting k 0) }
 {
-    let most = in_use(n);
-    let mut count: u32 = 0;
-    for k in 0..most {
-        count += job_count(waiting[k]);
+    let mut count = 0;
+    for w in &waiting[..n.min(TASKS)] {
+        count += job_count(*w);
     }
     count
 }
@@ -143,18 +111,13 @@ pub fn last_sound(
 ) -> bool
     ensures { result ≡ last_sound n (record { waiting = waiting; runs = runs }) ticks last }
 {
-    match last {
-        None => true,
-        Some(k) => {
-            if n <= k {
-                return false;
-            }
-            if TASKS <= k {
-                return false;
-            }
-            laws::all_of(&[true, 0 < waiting[k], 1 <= runs[k], 1 <= ticks])
-        }
+    let Some(k) = last else {
+        return true;
+    };
+    if n.min(TASKS) <= k {
+        return false;
     }
+    laws::all_of(&[true, 0 < waiting[k], 1 <= runs[k], 1 <= ticks])
 }
 
 // Whether both counts are within their bounds, and the releases no fewer than the jobs that wait.

@@ -13,7 +13,7 @@ use Rattle.run.specs.declared.State.{State}
 use Rattle.run.specs.Sound.{sound_server, sound_task}
 
 -- of a server's row, the ticks taken, its used count and its elapsed count
-unfoldable pub server_tests : Server → ℕ → ℕ → ℕ → List Bool
+abbrev pub server_tests : Server → ℕ → ℕ → ℕ → List Bool
 server_tests s ticks used elapsed =
     leb elapsed s.period.0
     ∷ leb used elapsed
@@ -22,7 +22,7 @@ server_tests s ticks used elapsed =
     ∷ []
 
 -- of a task's row, its waiting jobs, the front one's run count, and whether it is the last-run task
-unfoldable pub task_tests : Task → Mode → ℕ → ℕ → Bool → List Bool
+abbrev pub task_tests : Task → Mode → ℕ → ℕ → Bool → List Bool
 task_tests k m waiting runs last =
     every (queue_sound (in_mode k.limit m).0 waiting runs last)
     ∷ not (is_d2 m && (is_low k.level && ltb 0 waiting))

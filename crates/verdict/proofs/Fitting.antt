@@ -1,16 +1,16 @@
 -- Whether a table fits, as its verdicts are written out and read: row by row, and mode by mode.
 -- Assumes nothing.
+use Rattle.std.proofs.lemmas.Bool.{cases_Bool}
 use Rattle.std.proofs.Common.{None, Option, Some}
 use mathlib.Core.Path.{◌≡◌, refl, sym, ap, subst, ◌∙◌}
-use mathlib.Core.Bool.{Bool, true, false}
-use mathlib.Core.List.{List}
+use mathlib.Core.Bool.{Bool, true, false, not}
+use mathlib.Core.List.{[], ◌∷◌}
 use mathlib.Core.Logic.{◌⊎◌, inl, inr}
-use Prim.Native.Nat.{ℕ, ◌+◌, ◌≤◌, ◌<◌}
+use Prim.Native.Nat.{ℕ, zero, suc, ◌≤◌, ◌<◌}
 use native.Mathlib.Omega.{arith}
-use lib.ListN.{length, get_or, set, replicate, length-set, length-replicate, get_or-replicate}
-use lib.Seq.{get_or-set_same, get_or-set_other}
-use borrow.Author.Count.{below_more}
-use Rattle.laws.proofs.Choice.{le_or_lt, clash, true_or_false}
+use lib.ListN.{length, get_or, replicate, length-replicate, get_or-replicate}
+use Rattle.std.specs.Option.{is_some}
+use Rattle.laws.proofs.Choice.{le_or_lt, clash}
 use Rattle.laws.proofs.Search.{hit, miss, is_least, found_passes, found_first, none_passes}
 use Rattle.laws.proofs.Search.{NoneFinds, FirstAt, First, first, nowhere, first_at, first_none, first_is}
 use Rattle.laws.proofs.Rows.{length_listed, listed_at, is_listed}
@@ -42,47 +42,10 @@ module _ (t : Table) where
   unfolding verdicts_of
   verdicts_at i d h = listed_at 32 (row_verdicts t) i d h
 
--- As a loop writes them: those of the first i rows, and after them what stands for an absent row.
-pub record RowsWritten (t : Table) (i : ℕ) (all : List (ByMode Verdict)) : Type 0 where
-  pub long : length all ≡ 32
-  pub rows : (k : ℕ) → k < i → get_or all k (no_verdicts NoServer) ≡ row_verdicts t k
-  pub absent : (k : ℕ) → i ≤ k → k < 32 → get_or all k (no_verdicts NoServer) ≡ no_verdicts NoServer
-
 module _ (t : Table) where
-  pub none_written : RowsWritten t 0 (replicate 32 (no_verdicts NoServer))
-  none_written =
-      record {
-        long = length-replicate 32 (no_verdicts NoServer);
-        rows = λ k h. absurd (omega arith);
-        absent = λ k h l. get_or-replicate 32 k (no_verdicts NoServer) (no_verdicts NoServer) l;
-      }
-
-  pub row_written : (i : ℕ) (all : List (ByMode Verdict)) (v : ByMode Verdict) → i < 32 → RowsWritten t i all →
-      v ≡ row_verdicts t i → RowsWritten t (i + 1) (set all i v)
-  row_written i all v h w e =
-      let d = no_verdicts NoServer in
-      let same : get_or (set all i v) i d ≡ row_verdicts t i = get_or-set_same all i v d (omega (arith, w.long)) ∙ e in
-      record {
-        long = length-set all i v ∙ w.long;
-        rows =
-            below_more (λ k. get_or (set all i v) k d ≡ row_verdicts t k) i
-            (λ k l. get_or-set_other all i k v d (λ q. omega arith) ∙ w.rows k l) same;
-        absent = λ k l m. get_or-set_other all i k v d (λ q. omega arith) ∙ w.absent k (omega arith) m;
-      }
-
-  absent_row : (k : ℕ) → table_keeps t ≡ true → t.nservers ≤ k → no_verdicts NoServer ≡ row_verdicts t k
+  pub absent_row : (k : ℕ) → table_keeps t ≡ true → t.nservers ≤ k → no_verdicts NoServer ≡ row_verdicts t k
   absent_row k e h =
       rw (verdict_absent t N k e h, verdict_absent t D1 k e h, verdict_absent t D2 k e h)
-
-  pub all_written : (all : List (ByMode Verdict)) → table_keeps t ≡ true → RowsWritten t t.nservers all → all ≡ verdicts_of t
-  unfolding verdicts_of
-  all_written all e w =
-      is_listed 32 (row_verdicts t) (no_verdicts NoServer) all w.long (λ k h. row k h (le_or_lt t.nservers k))
-    where
-      row : (k : ℕ) → k < 32 → (t.nservers ≤ k) ⊎ (k < t.nservers) →
-          get_or all k (no_verdicts NoServer) ≡ row_verdicts t k
-      row k h (inl l) = w.absent k l h ∙ absent_row k e l
-      row k h (inr l) = w.rows k l
 
   -- a table that breaks the rules has 13 everywhere
   pub none_kept : table_keeps t ≡ false → replicate 32 (no_verdicts Unsound) ≡ verdicts_of t
@@ -104,6 +67,12 @@ no_miss : (v : Verdict) → (v ≡ Misses → ⊥) → is_miss v ≡ false
 no_miss (Response r) h = refl
 no_miss Misses h = absurd (h refl)
 no_miss (No why) h = refl
+
+none_told : (f : Option ℕ) (b : Bool) → is_some f ≡ not b → is_miss (told f) ≡ b
+none_told None true e = refl
+none_told None false e = cc
+none_told (Some r) true e = cc
+none_told (Some r) false e = refl
 
 row_in_lem : (t : Table) (i : ℕ) (m : Mode) → verdict_in (row_verdicts t i) m ≡ verdict_of t i m
 row_in_lem t i N = refl
@@ -132,6 +101,11 @@ module _ (t : Table) (m : Mode) where
 
     pub row_told : (i : ℕ) (f : Option ℕ) → i < t.nservers → response_at t m i ≡ f → misses i ≡ is_miss (told f)
     row_told i f h e = ap is_miss (verdict_told t m i keeps h ∙ ap told e)
+
+    -- as a caller asks it: whether there is none
+    pub row_asked : (i : ℕ) (f : Option ℕ) (b : Bool) → i < t.nservers → f ≡ response_at t m i → is_some f ≡ not b →
+        misses i ≡ b
+    row_asked i f b h e q = row_told i f h (sym e) ∙ none_told f b q
 
     pub row_misses : (i : ℕ) → i < t.nservers → misses i ≡ true → NoneMisses i → Some i ≡ least_row (verdicts_of t) m
     unfolding least_row
@@ -173,7 +147,13 @@ module _ (t : Table) (m : Mode) where
       (sym (read_at i h)
       ∙ none_passes read 0 (length (verdicts_of t)) e i (omega arith) (omega (arith, verdicts_length t)))
 
--- The least mode with such a row.
+-- The least mode with such a row. A loop goes over the modes in their order.
+pub mode_in_order : (k : ℕ) → k < 3 → get_or (N ∷ D1 ∷ D2 ∷ []) k N ≡ mode_said k
+mode_in_order zero h = refl
+mode_in_order (suc zero) h = refl
+mode_in_order (suc (suc zero)) h = refl
+mode_in_order (suc (suc (suc k))) h = absurd (omega arith)
+
 module _ (t : Table) where
   abbrev pub row_in : ℕ → Option ℕ
   row_in k = least_row (verdicts_of t) (mode_said k)
@@ -216,7 +196,7 @@ module _ (t : Table) where
   -- the answer says one of these
   pub fits_is : Answers t (fits_of t)
   unfolding from_verdicts
-  fits_is = go (true_or_false (table_keeps t))
+  fits_is = go (cases_Bool (table_keeps t))
     where
       earlier : (n : Mode) (k : ℕ) → mode_value n < k → ((j : ℕ) → j < k → row_in t j ≡ None) → (i : ℕ) →
           verdict_of t i n ≡ Misses → ⊥

@@ -6,6 +6,7 @@ use mathlib.Core.Bool.{Bool}
 use mathlib.Core.List.{List}
 use Prim.Native.Nat.{ℕ, ◌+◌, ◌≤◌, ◌<◌}
 use native.Mathlib.Omega.{arith}
+use lib.ListN.{take}
 use borrow.Author.Tests.{eq-eqb, ne_eqb}
 use Rattle.laws.specs.Search.{least}
 use Rattle.laws.proofs.Search.{Searched, hit, miss, least_is, is_least}
@@ -14,33 +15,28 @@ use Rattle.table.specs.declared.Mode.{Mode}
 use Rattle.table.specs.declared.Table.{Table}
 use Rattle.table.specs.Rows.{period_at, capacity_at}
 use Rattle.verdict.specs.declared.Higher.{Higher}
+use Rattle.verdict.specs.declared.delayer.Delayer.{Delayer}
 use Rattle.verdict.specs.Verdict.{meets, response_at}
-use Rattle.verdict.specs.Inner.{interference_in, meets_in, Columns, Delaying}
-use Rattle.verdict.proofs.Columns.{in_rises}
+use Rattle.verdict.specs.Inner.{interference_in, meets_in, Delaying}
+use Rattle.verdict.proofs.Delayers.{in_rises}
 
-module _ (n : ℕ) (periods capacities late : List ℕ) (c : ℕ) where
-  pub next_tried : Columns n periods capacities late → (r d : ℕ) → d ≡ interference_in n periods capacities late r →
-      NonePasses (meets_in n periods capacities late c) 1 r → NonePasses (meets_in n periods capacities late c) 1 (c + d)
+module _ (ds : List Delayer) (c : ℕ) where
+  pub next_tried : (r d : ℕ) → d ≡ interference_in ds r → NonePasses (meets_in ds c) 1 r →
+      NonePasses (meets_in ds c) 1 (c + d)
   unfolding meets_in
-  next_tried k r d e none =
+  next_tried r d e none =
       rw e
-      (climb_next
-      (λ x. c + interference_in n periods capacities late x)
-      1
-      r
-      (λ x h. omega (arith, in_rises periods capacities late n k r x h))
-      none)
+      (climb_next (λ x. c + interference_in ds x) 1 r (λ x h. omega (arith, in_rises ds r x h)) none)
 
-  pub found_least : (r d p : ℕ) → d ≡ interference_in n periods capacities late r → 1 ≤ r → r ≤ p → c + d ≤ r →
-      NonePasses (meets_in n periods capacities late c) 1 r → Some r ≡ least (meets_in n periods capacities late c) 1 p
+  pub found_least : (r d p : ℕ) → d ≡ interference_in ds r → 1 ≤ r → r ≤ p → c + d ≤ r →
+      NonePasses (meets_in ds c) 1 r → Some r ≡ least (meets_in ds c) 1 p
   unfolding meets_in
   found_least r d p e low high le none =
-      climb_found (λ x. c + interference_in n periods capacities late x) 1 p r low (omega arith) (omega arith) none
+      climb_found (λ x. c + interference_in ds x) 1 p r low (omega arith) (omega arith) none
 
-  pub found_none : (r p : ℕ) → p < r → NonePasses (meets_in n periods capacities late c) 1 r →
-      None ≡ least (meets_in n periods capacities late c) 1 p
+  pub found_none : (r p : ℕ) → p < r → NonePasses (meets_in ds c) 1 r → None ≡ least (meets_in ds c) 1 p
   unfolding meets_in
-  found_none r p h none = climb_none (λ x. c + interference_in n periods capacities late x) 1 p r (omega arith) none
+  found_none r p h none = climb_none (λ x. c + interference_in ds x) 1 p r (omega arith) none
 
 -- two tests that say the same of each number find the same
 searched_same : (p q : ℕ → Bool) → ((x : ℕ) → p x ≡ q x) → (r n : ℕ) (a : Option ℕ) → Searched p r n a → Searched q r n a
@@ -52,7 +48,7 @@ least_same p q e r n = is_least q r n (least p r n) (searched_same p q e r n (le
 
 module _ (t : Table) (m : Mode) (i : ℕ) where
   meets_same : (h : Higher) (c x : ℕ) → Delaying t m i h → c ≡ capacity_at t m i →
-      meets_in h.count h.periods h.capacities h.late c x ≡ meets t m i x
+      meets_in (take h.count h.delayers) c x ≡ meets t m i x
   unfolding meets meets_in
   meets_same h c x k e = rw (e, k.asks x)
 
@@ -62,13 +58,13 @@ module _ (t : Table) (m : Mode) (i : ℕ) where
   response_zero c e z = rw (eq-eqb (capacity_at t m i) 0 (omega arith))
 
   pub response_else : (c : ℕ) (h : Higher) (r : Option ℕ) → c ≡ capacity_at t m i → (c ≡ 0 → ⊥) → Delaying t m i h →
-      r ≡ least (meets_in h.count h.periods h.capacities h.late c) 1 (period_at t i) → r ≡ response_at t m i
+      r ≡ least (meets_in (take h.count h.delayers) c) 1 (period_at t i) → r ≡ response_at t m i
   unfolding response_at
   response_else c h r e z k f =
       rw (ne_eqb (capacity_at t m i) 0 (λ q. z (omega arith)))
       (f
       ∙ least_same
-      (meets_in h.count h.periods h.capacities h.late c)
+      (meets_in (take h.count h.delayers) c)
       (meets t m i)
       (λ x. meets_same h c x k e)
       1

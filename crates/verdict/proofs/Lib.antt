@@ -1,5 +1,5 @@
 pub mod Cases
-pub mod Columns
+pub mod Delayers
 pub mod Fitting
 pub mod Delays
 pub mod Interference

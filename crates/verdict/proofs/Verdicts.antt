@@ -8,7 +8,8 @@ use Prim.Native.Nat.{ℕ, ◌+◌, ◌≤◌, ◌<◌}
 use native.Mathlib.Omega.{arith}
 use borrow.Author.Tests.{lt-ltb, le-ltb, leb-true, leb-false, le-leb, eq-eqb, ne_eqb}
 use Rattle.laws.specs.Search.{least}
-use Rattle.laws.proofs.Choice.{true_or_false, le_or_lt}
+use Rattle.std.proofs.lemmas.Bool.{cases_Bool}
+use Rattle.laws.proofs.Choice.{le_or_lt}
 use Rattle.laws.proofs.Search.{hit, miss, is_least, found_passes, found_first, none_passes}
 use Rattle.units.specs.declared.Ticks.{Ticks}
 use Rattle.table.specs.declared.Mode.{Mode}
@@ -51,7 +52,7 @@ module _ (t : Table) (m : Mode) (i : ℕ) where
   is_met r h = le-leb (capacity_at t m i + interference t m i r) r h
 
   is_missed : (r : ℕ) → (Meets t m i r → ⊥) → meets t m i r ≡ false
-  is_missed r h = elim (true_or_false (meets t m i r)) [ inl e ↦ absurd (h (meets_true r e)) | inr e ↦ e ]
+  is_missed r h = elim (cases_Bool (meets t m i r)) [ inl e ↦ absurd (h (meets_true r e)) | inr e ↦ e ]
 
   -- the search with a capacity, and without
   searched : 0 < capacity_at t m i → response_at t m i ≡ least (meets t m i) 1 (period_at t i)
@@ -127,7 +128,7 @@ data Way (t : Table) (m : Mode) (i : ℕ) : Type 0 where
   served : table_keeps t ≡ true → i < t.nservers → verdict_of t i m ≡ told (response_at t m i) → Way t m i
 
 way : (t : Table) (m : Mode) (i : ℕ) → Way t m i
-way t m i = go (true_or_false (table_keeps t)) (le_or_lt t.nservers i)
+way t m i = go (cases_Bool (table_keeps t)) (le_or_lt t.nservers i)
   where
     go : (table_keeps t ≡ true) ⊎ (table_keeps t ≡ false) → (t.nservers ≤ i) ⊎ (i < t.nservers) → Way t m i
     go (inr e) q = unsound e (verdict_unsound t m i e)

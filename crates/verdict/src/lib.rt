@@ -2,18 +2,23 @@
 
 #![tactic(auto)]
 
-ghost use Rattle.std.specs.Prelude.{◌≡◌, true, ◌≤◌, ◌<◌};
+ghost use Rattle.std.specs.Prelude.{◌≡◌, true, ◌≤◌, ◌<◌, length};
 ghost use Rattle.laws.specs.Search.{least};
-ghost use Rattle.laws.specs.RoundUp.{up};
 ghost use Rattle.table.specs.Rules.{table_keeps};
-ghost use Rattle.verdict.specs.Inner.{late_of, interference_in, meets_in, Columns, Delaying};
+ghost use Rattle.table.specs.Inner.{Sized};
+ghost use Rattle.verdict.specs.Inner.{interference_in, meets_in, Delaying};
 ghost use Rattle.verdict.specs.Verdict.{response_at, verdict_of};
 ghost use Rattle.verdict.specs.Fits.{row_verdicts, verdicts_of, no_verdicts, least_row, fits_of};
 
-use table::{ByMode, Kind, MODES, Mode, Refusal, SERVERS, Table};
+mod delayer;
+
+use delayer::Delayer;
+use std::array;
+use table::{ByMode, Kind, Mode, Refusal, SERVERS, Table};
 use units::Ticks;
 
 // The least response, "misses", or a refusal.
+// Kept: an enum of the three cases that 01 names for a verdict; Option in a Result says less.
 #[derive(Clone, Copy)]
 pub enum Verdict {
     Response(Ticks),
@@ -22,6 +27,7 @@ pub enum Verdict {
 }
 
 // Whether a table fits: yes, the least miss, or a refusal. (02, No. 5.)
+// Kept: an enum of the three cases that 02 names; Option in a Result says less.
 #[derive(Clone, Copy)]
 pub enum Fits {
     Yes,
@@ -29,147 +35,113 @@ pub enum Fits {
     No(Refusal),
 }
 
-// The servers that delay a row in a mode, one after the other: those of higher priority that have
-// capacity. `late` has the late-then-early term of each. They are numbers in columns, made once and
-// lent, since a climb may take a million steps.
+// The servers that delay a row in a mode, those of higher priority that have capacity: the first
+// count.
+// Kept: an array with a count of it, since there is no heap for a Vec.
 #[derive(Clone, Copy)]
 struct Higher {
     count: usize,
-    periods: [u32; SERVERS],
-    capacities: [u32; SERVERS],
-    late: [u32; SERVERS],
+    delayers: [Delayer; SERVERS],
 }
 
-// The round-up of a / t.
-fn round_up(a: u32, t: u32) -> u32
-    requires { (0 < t) × (t ≤ 1000000) × (a ≤ 2000000) }
-    ensures { result ≡ up a t }
-{
-    (a + (t - 1)) / t
+// A server row of a table that keeps the rules: 13 and 11 are behind it. (Sized: its arrays have
+// their lengths, as every table's have that code holds.)
+#[derive(Clone, Copy)]
+struct Row<'a> {
+    table: &'a Table,
+    row: usize,
+    ghost sized: { Sized table.now },
+    ghost keeps: { table_keeps table.now ≡ true },
+    ghost there: { row < table.now.nservers },
 }
 
-// "the deferrable server's late-then-early term T - C": an event server may be charged late in one
-// period and early in the next; a timed one may not.
-fn late_of(kind: Kind, period: u32, capacity: u32) -> u32
-    requires { capacity ≤ period }
-    ensures { result ≡ late_of kind period capacity }
-{
-    match kind {
-        Kind::Timed => 0,
-        Kind::Event => period - capacity,
-    }
-}
-
-// The servers that delay a row.
-fn higher_than(t: Table, row: usize, m: Mode) -> Higher
-    requires { (table_keeps t ≡ true) × (row < t.nservers) }
-    ensures { Delaying t m row result }
-{
-    let priority = t.servers[row].priority;
-    let n = t.nservers;
-    let mut periods = [0u32; SERVERS];
-    let mut capacities = [0u32; SERVERS];
-    let mut late = [0u32; SERVERS];
-    let mut count = 0;
-    for i in 0..n {
-        let s = t.servers[i];
-        let c = s.capacity;
-        let kind = s.kind;
-        let period = s.period.0;
-        let capacity = table::in_mode(c, m).0;
-        if s.priority <= priority || capacity == 0 {
-            continue;
+impl Row<'_> {
+    // The servers that delay the row in a mode.
+    #[tactic(auto, using(table::proofs::Rules::few_servers))]
+    fn higher(&self, m: Mode) -> Higher
+        ensures { Delaying self.now.table.now m self.now.row result }
+    {
+        // What asks for nothing stands past the count.
+        let mut delayers = [Delayer::new(Kind::Timed, 1, 0); SERVERS];
+        let mut count = 0;
+        let priority = self.table.servers[self.row].priority;
+        for s in &self.table.servers[..self.table.nservers] {
+            let capacity = table::in_mode(s.capacity, m).0;
+            if s.priority <= priority || capacity == 0 {
+                continue;
+            }
+            delayers[count] = Delayer::new(s.kind, s.period.0, capacity);
+            count += 1;
         }
-        periods[count] = period;
-        capacities[count] = capacity;
-        late[count] = late_of(kind, period, capacity);
-        count += 1;
+        Higher { count, delayers }
     }
-    Higher {
-        count,
-        periods,
-        capacities,
-        late,
+
+    // The response of the row's server in a mode.
+    #[tactic(auto, using(table::proofs::Rules::few_servers))]
+    fn response(&self, m: Mode) -> Option<u32>
+        ensures { result ≡ response_at self.now.table.now m self.now.row }
+    {
+        let s = &self.table.servers[self.row];
+        let capacity = table::in_mode(s.capacity, m).0;
+        if capacity == 0 {
+            return Some(0);
+        }
+        let h = self.higher(m);
+        climb(&h.delayers[..h.count], capacity, s.period.0)
+    }
+
+    #[tactic(auto, using(crate::proofs::Verdicts::verdict_told))]
+    fn verdict(&self, m: Mode) -> Verdict
+        ensures { result ≡ verdict_of self.now.table.now self.now.row m }
+    {
+        match self.response(m) {
+            Some(r) => Verdict::Response(Ticks(r)),
+            None => Verdict::Misses,
+        }
+    }
+
+    fn verdicts(&self) -> ByMode<Verdict>
+        ensures { result ≡ row_verdicts self.now.table.now self.now.row }
+    {
+        ByMode {
+            n: self.verdict(Mode::N),
+            d1: self.verdict(Mode::D1),
+            d2: self.verdict(Mode::D2),
+        }
     }
 }
 
-// I(r): what the servers of these columns ask of r ticks.
-fn interference_in<'a>(
-    count: usize,
-    periods: &'a [u32; SERVERS],
-    capacities: &'a [u32; SERVERS],
-    late: &'a [u32; SERVERS],
-    r: u32,
-) -> u32
-    requires { Columns count periods.now capacities.now late.now × (r ≤ 1000000) }
-    ensures { result ≡ interference_in count periods.now capacities.now late.now r }
+// I(r): what these servers ask of r ticks.
+fn interference_in(higher: &[Delayer], r: u32) -> u32
+    requires { (length higher.now ≤ 32) × (r ≤ 1000000) }
+    ensures { result ≡ interference_in higher.now r }
 {
-    let mut sum: u32 = 0;
-    for i in 0..count {
-        sum += round_up(r + late[i], periods[i]) * capacities[i];
+    let mut sum = 0;
+    for d in higher {
+        sum += d.asks(r);
     }
     sum
 }
 
 // The least r from 1 to the period that meets the inequality. I never falls as r grows, so what is
 // below C + I(r) misses where r does: the next number to try is C + I(r) itself.
-fn climb<'a>(
-    count: usize,
-    periods: &'a [u32; SERVERS],
-    capacities: &'a [u32; SERVERS],
-    late: &'a [u32; SERVERS],
-    capacity: u32,
-    period: u32,
-) -> Option<usize>
-    requires { Columns count periods.now capacities.now late.now × (capacity ≤ period) × (period ≤ 1000000) }
-    ensures { result ≡ least (meets_in count periods.now capacities.now late.now capacity) 1 period }
+fn climb(higher: &[Delayer], capacity: u32, period: u32) -> Option<u32>
+    requires { (length higher.now ≤ 32) × (capacity ≤ period) × (period ≤ 1000000) }
+    ensures { result ≡ least (meets_in higher.now capacity) 1 period }
 {
-    let mut r: u32 = 1;
+    let mut r = 1;
     while r <= period {
-        let next = capacity + interference_in(count, periods, capacities, late, r);
+        let next = capacity + interference_in(higher, r);
         if next <= r {
-            return Some(r as usize);
+            return Some(r);
         }
         r = next;
     }
     None
 }
 
-// The response of a server in a mode.
-fn response(t: Table, row: usize, m: Mode) -> Option<usize>
-    requires { (table_keeps t ≡ true) × (row < t.nservers) }
-    ensures { result ≡ response_at t m row }
-{
-    let s = t.servers[row];
-    let c = s.capacity;
-    let capacity = table::in_mode(c, m).0;
-    let period = s.period.0;
-    if capacity == 0 {
-        return Some(0);
-    }
-    let h = higher_than(t, row, m);
-    climb(
-        h.count,
-        &h.periods,
-        &h.capacities,
-        &h.late,
-        capacity,
-        period,
-    )
-}
-
-// The verdict for a row that is there, behind the door.
-fn verdict_in(t: Table, row: usize, m: Mode) -> Verdict
-    requires { (table_keeps t ≡ true) × (row < t.nservers) }
-    ensures { result ≡ verdict_of t row m }
-{
-    match response(t, row, m) {
-        Some(r) => Verdict::Response(Ticks(r as u32)),
-        None => Verdict::Misses,
-    }
-}
-
 // The verdict for a server row in a mode: 13 first, then 11.
+#[tactic(auto, unfolding(crate::specs::Verdict::verdict_of))]
 pub fn verdict_of(t: Table, row: usize, mode: Mode) -> Verdict
     ensures { result ≡ verdict_of t row mode }
 {
@@ -179,10 +151,11 @@ pub fn verdict_of(t: Table, row: usize, mode: Mode) -> Verdict
     if t.nservers <= row {
         return Verdict::No(Refusal::NoServer);
     }
-    verdict_in(t, row, mode)
+    Row { table: &t, row }.verdict(mode)
 }
 
 // What stands in the place of a row that has no verdicts.
+// Kept: theorem outcomes.verdicts_of_settled holds the 32 rows, the refused ones among them.
 fn refused(why: Refusal) -> ByMode<Verdict>
     ensures { result ≡ no_verdicts why }
 {
@@ -194,16 +167,16 @@ fn refused(why: Refusal) -> ByMode<Verdict>
     }
 }
 
-// The verdicts of a row that is there.
-fn row_verdicts(t: Table, row: usize) -> ByMode<Verdict>
-    requires { (table_keeps t ≡ true) × (row < t.nservers) }
-    ensures { result ≡ row_verdicts t row }
+// The verdicts of a row of a table that keeps the rules: 11 where there is none.
+#[tactic(auto, using(crate::proofs::Fitting::absent_row))]
+fn verdicts_at(t: &Table, row: usize) -> ByMode<Verdict>
+    requires { Sized t.now × (table_keeps t.now ≡ true) }
+    ensures { result ≡ row_verdicts t.now row }
 {
-    ByMode {
-        n: verdict_in(t, row, Mode::N),
-        d1: verdict_in(t, row, Mode::D1),
-        d2: verdict_in(t, row, Mode::D2),
+    if t.nservers <= row {
+        return refused(Refusal::NoServer);
     }
+    Row { table: t, row }.verdicts()
 }
 
 // All verdicts of a table: 13 is asked once for all of them.
@@ -213,23 +186,17 @@ pub fn verdicts_of(t: Table) -> [ByMode<Verdict>; SERVERS]
     if !table::table_keeps(t) {
         return [refused(Refusal::Unsound); SERVERS];
     }
-    let n = t.nservers;
-    let mut all = [refused(Refusal::NoServer); SERVERS];
-    for row in 0..n {
-        all[row] = row_verdicts(t, row);
-    }
-    all
+    array::from_fn(|row| verdicts_at(&t, row))
 }
 
 // The least row that misses in a mode; none after it is looked at.
-fn least_row(t: Table, m: Mode) -> Option<usize>
-    requires { table_keeps t ≡ true }
-    ensures { result ≡ least_row (verdicts_of t) m }
+// Kept: a loop over the rows' numbers, since a Row is what is asked, and nothing here is indexed.
+fn least_row(t: &Table, m: Mode) -> Option<usize>
+    requires { Sized t.now × (table_keeps t.now ≡ true) }
+    ensures { result ≡ least_row (verdicts_of t.now) m }
 {
-    let n = t.nservers;
-    for row in 0..n {
-        let f = response(t, row, m);
-        if let None = f {
+    for row in 0..t.nservers {
+        if (Row { table: t, row }).response(m).is_none() {
             return Some(row);
         }
     }
@@ -243,11 +210,9 @@ pub fn fits_of(t: Table) -> Fits
     if !table::table_keeps(t) {
         return Fits::No(Refusal::Unsound);
     }
-    for k in 0..MODES {
-        let m = table::mode_said(k as u64);
-        let f = least_row(t, m);
-        if let Some(row) = f {
-            return Fits::Miss { mode: m, row };
+    for mode in [Mode::N, Mode::D1, Mode::D2] {
+        if let Some(row) = least_row(&t, mode) {
+            return Fits::Miss { mode, row };
         }
     }
     Fits::Yes

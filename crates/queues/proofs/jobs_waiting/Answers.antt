@@ -3,29 +3,34 @@
 use mathlib.Core.Path.{refl, ap, sym, ◌∙◌}
 use Prim.Native.Nat.{◌+◌}
 use native.Mathlib.Omega.{arith}
-use lib.ListN.{get_or}
+use lib.ListN.{get_or, length-take}
+use lib.Seq.{get_or-take}
 use Rattle.laws.specs.Rows.{sum_below}
 use Rattle.laws.proofs.Rows.{sum_next}
 use Rattle.queues.proofs.Inner.{sum_in_use}
 use Rattle.queues.proofs.jobs_waiting.Goals as goal
 
-pub loop-k-init : goal.loop-k-init
+pub loop-w-init : goal.loop-w-init
 unfolding sum_below
-loop-k-init c = (omega arith, omega arith, refl)
+loop-w-init c = (omega arith, refl)
 
-pub loop-k-preserved : goal.loop-k-preserved
-loop-k-preserved c =
-    let l = c.loop-k in
-    let w = c.args.waiting in (
-      omega arith,
-      omega (arith, c.job_count-count.ensures.0, c.job_count-count.ensures.1),
-      ap (λ x. l.count + x) c.job_count-count.ensures.0
-          ∙ ap (λ x. x + get_or w l.k 0) l.invariant.2
-          ∙ sym (sum_next (λ j. get_or w j 0) l.k),
+pub loop-w-preserved : goal.loop-w-preserved
+loop-w-preserved c =
+    let l = c.loop-w in
+    let w = c.args.waiting in
+    let m = c.min.result in (
+      omega (arith, c.job_count-count.ensures.1),
+      ap (λ x. l.count + x)
+          (c.job_count-count.ensures.0
+          ∙ get_or-take m w l.w-index 0 (omega (arith, length-take m w, c.loop-w-test.true)))
+          ∙ ap (λ x. x + get_or w l.w-index 0) l.invariant.1
+          ∙ sym (sum_next (λ j. get_or w j 0) l.w-index),
     )
 
 pub returns : goal.returns
 returns c =
     let a = c.args in
-    let l = c.loop-k in
-    l.invariant.2 ∙ sum_in_use a.waiting a.n l.k (omega arith) (omega (arith, c.in_use-most.ensures))
+    let l = c.loop-w in
+    l.invariant.1
+    ∙ sum_in_use a.waiting a.n l.w-index (omega arith)
+    (omega (arith, length-take c.min.result a.waiting, c.min.ensures))

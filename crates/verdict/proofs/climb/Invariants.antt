@@ -7,8 +7,7 @@ use Rattle.verdict.specs.Inner.{meets_in}
 use Rattle.verdict.proofs.climb.Given as goal
 
 abbrev pub invariant-loop-r : goal.invariant-loop-r
-invariant-loop-r l =
-    (1 ≤ l.r) × NonePasses (meets_in l.count l.periods l.capacities l.late l.capacity) 1 l.r
+invariant-loop-r l = (1 ≤ l.r) × NonePasses (meets_in l.higher l.capacity) 1 l.r
 
 abbrev pub decreases-loop-r : goal.decreases-loop-r
 decreases-loop-r l = suc l.period - l.r
