@@ -7,15 +7,15 @@ use mathlib.Core.Bool.{Bool, true, false}
 use mathlib.Core.List.{List, [], ◌∷◌}
 use Prim.Native.Nat.{ℕ, ◌+◌, ◌-◌, ◌≤◌, ◌<◌}
 use native.Mathlib.Omega.{arith}
-use native.Mathlib.Nat.{zero-add}
 use lib.Dec.{eqb}
-use lib.ListN.{length, get_or, take, drop, set, replicate, length-append}
+use lib.ListN.{length, get_or, set, replicate, length-append}
 use lib.Seq.{take-append_seam}
 use borrow.Author.Tests.{ltb-true}
 use Rattle.laws.specs.Choice.{every}
 use Rattle.laws.specs.Search.{least, first_failed}
 use Rattle.laws.specs.RoundUp.{up}
-use Rattle.laws.proofs.Choice.{and_left, every_at, within_low, within_high}
+use Rattle.std.specs.Cmp.{first_so}
+use Rattle.laws.proofs.Choice.{every_at, within_low, within_high}
 use Rattle.units.specs.declared.Micros.{Micros}
 use Rattle.decimal.specs.Inner.Fields.{first_line, fields_from, first_field, field_end}
 use Rattle.decimal.proofs.Lines.{high}
@@ -26,7 +26,7 @@ use Rattle.text.specs.declared.Word.{Word}
 use Rattle.text.specs.declared.Word.TheVariants.{ATick, AServer, ATask, Unknown}
 use Rattle.text.specs.Words.{tick_word, task_word, server_word}
 use Rattle.decimal.specs.Lines.{same}
-use Rattle.text.specs.Line.{Form, tick_form, field_tests, form_tests, micros_at, leading}
+use Rattle.text.specs.Line.{tick_form, field_tests, form_tests, micros_at, leading}
 use Rattle.text.specs.Standing.{is_nil}
 use Rattle.text.specs.TableText.{refused_beside, equal_beside, read_lines, Read}
 use Rattle.frametable.specs.declared.FrameTask.{FrameTask}
@@ -40,20 +40,13 @@ use Rattle.frametable.specs.Line.{frame_task_form, frame_task_said, frame_line_b
 use Rattle.frametable.specs.Text.{frame_task_of, frame_placed, frame_bounds, frame_standing, frame_grown, frame_ended, frame_text, frame_shown}
 use Rattle.frametable.proofs.Text.{frame_line_keeps, frame_task_room, frame_task_keeps_lem, frame_no_form}
 use Rattle.reader.specs.declared.fields.Fields.{Fields}
-use Rattle.reader.specs.declared.forms.WordRead.{WordRead}
-use Rattle.reader.specs.declared.frame.FrameLineRead.{FrameLineRead}
+use Rattle.reader.specs.declared.forms.LineRead.{LineRead}
 use Rattle.reader.specs.Inner.Lines.{first_word}
-use Rattle.reader.specs.Inner.Frame.{FrameAbove, frame_line_read, frame_behind, first_frame_read, frame_standing_by}
+use Rattle.reader.specs.Inner.Frame.{FrameAbove, frame_behind, first_frame_read, frame_standing_by}
 use Rattle.reader.proofs.Inner.{padded_more, nil_is}
-use Rattle.reader.proofs.Line.{ReadAs, line_ends, form_wrong, form_right, value_read, led_by, parts, other_word}
-use Rattle.reader.proofs.TableText.{lent}
+use Rattle.reader.proofs.Line.{ReadAs, form_wrong, form_right, value_read, led_by, parts, other_word}
 
--- what a line says and where it ends, from the one pass over its fields
-module _ (form : Form) (text : List ℕ) (from : ℕ) (r : Fields) (read : ReadAs form text from r) where
-  pub frame_lined : (l said : FrameLine) → l ≡ said →
-      record { line = l; end = r.end } ≡ frame_line_read text from said
-  frame_lined l said e = rw (e, line_ends form text from r read)
-
+-- what a line says, from the one pass over its fields
 module _ (text : List ℕ) (from : ℕ) (r : Fields) where
   pub frame_tick_wrong : ReadAs tick_form text from r → (field : ℕ) → r.wrong ≡ Some field →
       Malformed ATick field ≡ frame_line_by ATick (fields_from text from)
@@ -118,19 +111,9 @@ module _ (text : List ℕ) (task : led_by task_word text ≡ false) (tick : led_
           (other_formed (same (first_field text 0) server_word) _)
       go false e = sym (ap frame_line_of (field_last text 0 e).0 ∙ none_formed (leading (first_field text 0)))
 
-  pub frame_no_form_read : (w : WordRead) → w ≡ first_word text →
-      record { line = Malformed w.word 0; end = w.end } ≡ first_frame_read text
+  pub frame_no_form_read : (w : LineRead Word) → w ≡ first_word text →
+      record { said = Malformed w.said 0; end = w.end } ≡ first_frame_read text
   frame_no_form_read w e = rw (e, neither)
-
--- the line at the front of what is lent of the text
-pub frame_line_lent : (text : List ℕ) (at : ℕ) (r : FrameLineRead) →
-    r ≡ first_frame_read (take (length text - at) (drop at text)) →
-    (r.line ≡ read_frame_line (first_line (drop at text))) × (r.end ≡ length (first_line (drop at text)))
-frame_line_lent text at r e =
-    let f = rw (lent text at) at e in (
-      ap (λ (x : FrameLineRead). x.line) f,
-      ap (λ (x : FrameLineRead). x.end) f ∙ zero-add (length (first_line (drop at text))),
-    )
 
 -- a table that holds its rows and nothing else: its count is theirs
 pub frame_table_rows : (a : FrameRows) → frame_rows_of (frame_table_of a) ≡ a
@@ -221,7 +204,7 @@ frame_above_next n t (OfTick u) r e =
     let p = frame_line_keeps n (frame_rows_of t) (OfTick u) e in
     above_rows (n + 1) (frame_grown (frame_rows_of t) (OfTick u))
     (omega (arith, frame_count t r.whole, r.few))
-    (λ h. and_left (tick_keeps u.0) true p.bounded)
+    (λ h. first_so (tick_keeps u.0) true p.bounded)
 frame_above_next n t (OfTask k) r e =
     let p = frame_line_keeps n (frame_rows_of t) (OfTask k) e in
     let room = frame_task_room (length (frame_rows_of t).tasks) t.tick.0 k p.bounded in

@@ -13,7 +13,8 @@ use lib.ListN.{length, set, replicate, length-append}
 use lib.Seq.{set-append_seam}
 use borrow.Author.Tests.{ltb-true, eqb-true, eq-eqb, ne_eqb, not-true}
 use Rattle.laws.specs.Choice.{every}
-use Rattle.laws.proofs.Choice.{clash, and_left, within_low, le_or_lt}
+use Rattle.std.specs.Cmp.{first_so}
+use Rattle.laws.proofs.Choice.{clash, within_low, le_or_lt}
 use Rattle.units.specs.declared.Micros.{Micros}
 use Rattle.table.specs.declared.Server.{Server}
 use Rattle.table.specs.declared.Task.{Task}
@@ -82,7 +83,7 @@ module _ (t : Table) (whole : t ≡ table_of (rows_of t)) where
 
 -- the `tick` line stands above wherever a `server` or a `task` line is placed, so the tick is known
 pub server_below : (n servers tasks : ℕ) → placed_by n servers tasks AServer ≡ true → 1 < n
-server_below n servers tasks e = ltb-true 1 n (and_left (ltb 1 n) (eqb tasks 0) e)
+server_below n servers tasks e = ltb-true 1 n (first_so (ltb 1 n) (eqb tasks 0) e)
 
 pub task_below : (n servers tasks : ℕ) → (n ≤ 1 → servers ≡ 0) →
     placed_by n servers tasks ATask ≡ true → 1 < n
@@ -233,7 +234,7 @@ above_next n t (OfTick u) r e =
     (omega (arith, servers_count t r.whole, r.servers))
     (omega (arith, tasks_count t r.whole, r.tasks))
     (λ h. servers_count t r.whole ∙ r.first (omega arith))
-    (λ h. and_left (tick_keeps u.0) true p.bounded)
+    (λ h. first_so (tick_keeps u.0) true p.bounded)
 above_next n t (OfServer s) r e =
     let p = standing_keeps n (rows_of t) (OfServer s) e in
     let h = server_placed n t r p.stands in

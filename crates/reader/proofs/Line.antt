@@ -8,11 +8,13 @@ use Prim.Native.Nat.{ℕ, ◌+◌, ◌-◌, ◌≤◌, ◌<◌}
 use native.Mathlib.Omega.{arith}
 use native.Mathlib.Nat.{zero-add}
 use native.Mathlib.Numerals.{add-one}
-use lib.Dec.{ltb}
-use borrow.Author.Tests.{ltb-false}
+use lib.Dec.{ltb, eqb}
+use lib.Pointwise.{pointwise}
+use borrow.Author.Tests.{ltb-false, eqb-true, eqb-false, eq-eqb, ne_eqb}
 use lib.ListN.{length, get_or, take, drop, length-take, length-append, get_or-append}
 use lib.Seq.{get_or-take, get_or-append_seam, take-take, take-suc, take-append_seam}
-use Rattle.laws.proofs.Choice.{clash, is_false}
+use Rattle.std.proofs.lemmas.Bool.{false_from_ne_true}
+use Rattle.laws.proofs.Choice.{clash}
 use Rattle.laws.specs.Search.{first_failed}
 use Rattle.laws.proofs.Search.{failed_none}
 use Rattle.decimal.specs.Lines.{tab, line_feed, same}
@@ -23,7 +25,7 @@ use Rattle.decimal.proofs.Inner.Fields.{end_past_high, end_tab, end_within, end_
 use Rattle.table.specs.declared.Kind.{Kind}
 use Rattle.table.specs.declared.Level.{Level}
 use Rattle.text.specs.declared.Word.{Word}
-use Rattle.text.specs.declared.Word.TheVariants.{ATick, AServer, ATask, Unknown}
+use Rattle.text.specs.declared.Word.TheVariants.{ATick, AServer, ATask}
 use Rattle.text.specs.declared.Line.{Line}
 use Rattle.text.specs.declared.Line.TheVariants.{OfTick, OfServer, OfTask, Malformed}
 use Rattle.text.specs.Words.{tick_word, server_word, task_word, timed_word, mi_word, hi_word, kind_of, level_of}
@@ -31,7 +33,7 @@ use Rattle.text.specs.Line.{a_number, a_kind, a_level, Form, tick_form, server_f
 use Rattle.text.proofs.Lines.{form_count, no_fields_lem}
 use Rattle.reader.specs.declared.fields.Fields.{Fields}
 use Rattle.reader.specs.Inner.Fields.{value_of, kind_at, level_at, last_of, line_end, no_fields, passed}
-use Rattle.reader.specs.declared.forms.WordRead.{WordRead}
+use Rattle.reader.specs.declared.forms.LineRead.{LineRead}
 use Rattle.reader.specs.Inner.Lines.{first_word, line_read, read_behind, first_read}
 use Rattle.reader.proofs.Inner.Fields.{pass_ends, pass_wrong, pass_values, pass_many}
 use Rattle.units.specs.declared.Micros.{Micros}
@@ -75,11 +77,11 @@ module _ (form : Form) (text : List ℕ) (from : ℕ) (r : Fields) (read : ReadA
       malformed field ≡ formed_or malformed form (fields_from text from) said
   form_wrong malformed said field e = ap (λ x. unless_wrong x malformed said) (sym (first_wrong_lem (Some field) e))
 
-  pub lined : (l : Line) (said : Line) → l ≡ said → record { line = l; end = r.end } ≡ line_read text from said
+  pub lined : {L : Type 0} (l said : L) → l ≡ said → record { said = l; end = r.end } ≡ line_read text from said
   lined l said e = rw (e, line_ends)
 
   pub form_not : (said : Line) (field : ℕ) → r.wrong ≡ Some field →
-      record { line = Malformed (word_of said) field; end = r.end } ≡
+      record { said = Malformed (word_of said) field; end = r.end } ≡
       line_read text from (formed form (fields_from text from) said)
   form_not said field e =
       lined (Malformed (word_of said) field) (formed form (fields_from text from) said)
@@ -196,21 +198,20 @@ module _ (text : List ℕ) (from : ℕ) (r : Fields) where
       )
       (form_has task_form text from r e w (OfTask (task_said (fields_from text from))))
 
--- the leading word
-module _ (w : List ℕ) where
-  pub word_tick : same w tick_word ≡ true → ATick ≡ leading w
-  word_tick e = rw e
+-- the words, byte by byte
+pub tick_bytes : tick_word ≡ 116 ∷ 105 ∷ 99 ∷ 107 ∷ []
+unfolding tick_word
+tick_bytes = refl
 
-  module _ (not-tick : same w tick_word ≡ false) where
-    pub word_server : same w server_word ≡ true → AServer ≡ leading w
-    word_server e = rw (not-tick, e)
+pub server_bytes : server_word ≡ 115 ∷ 101 ∷ 114 ∷ 118 ∷ 101 ∷ 114 ∷ []
+unfolding server_word
+server_bytes = refl
 
-    module _ (not-server : same w server_word ≡ false) where
-      pub word_task : same w task_word ≡ true → ATask ≡ leading w
-      word_task e = rw (not-tick, not-server, e)
+pub task_bytes : task_word ≡ 116 ∷ 97 ∷ 115 ∷ 107 ∷ []
+unfolding task_word
+task_bytes = refl
 
-      pub word_other : same w task_word ≡ false → Unknown ≡ leading w
-      word_other e = rw (not-tick, not-server, e)
+pub ruleset words = (tick_bytes, server_bytes, task_bytes)
 
 pub leads_tick : ATick ≡ leading tick_word
 unfolding same tick_word
@@ -223,6 +224,21 @@ leads_server = refl
 pub leads_task : ATask ≡ leading task_word
 unfolding same tick_word server_word task_word
 leads_task = refl
+
+turned : (x y : ℕ) → eqb x y ≡ eqb y x
+turned x y = go (eqb x y) refl
+  where
+    go : (b : Bool) → eqb x y ≡ b → b ≡ eqb y x
+    go true e = sym (eq-eqb y x (sym (eqb-true x y e)))
+    go false e = sym (ne_eqb y x (λ q. eqb-false x y e (sym q)))
+
+-- what std compares place by place
+pub same_places : (a b : List ℕ) → pointwise eqb a b ≡ same b a
+unfolding same
+same_places [] [] = refl
+same_places [] (y ∷ b) = refl
+same_places (x ∷ a) [] = refl
+same_places (x ∷ a) (y ∷ b) = rw (same_places a b, turned x y)
 
 -- a text begins with a word and its tab
 abbrev pub led_by : List ℕ → List ℕ → Bool
@@ -279,7 +295,7 @@ module _ (text : List ℕ) where
       same (first_field text 0) w ≡ false
   unfolding field_end
   other_word w none more =
-      is_false (same (first_field text 0) w) (λ e. clash _ (stands (same_eq (first_field text 0) w e)) none)
+      false_from_ne_true (same (first_field text 0) w) (λ e. clash _ (stands (same_eq (first_field text 0) w e)) none)
     where
       stands : first_field text 0 ≡ w → led_by w text ≡ true
       stands e =
@@ -309,7 +325,7 @@ module _ (text : List ℕ) where
 
   pub word_read : (e : End) (word : Word) (end : ℕ) → e ≡ field_end text 0 → word ≡ leading (take e.at text) →
       Finds line_feed text e.at end → end ≤ length text →
-      record { word = word; end = end } ≡ first_word text
+      record { said = word; end = end } ≡ first_word text
   word_read e word end q r f h =
       let z : e.at - 0 ≡ e.at = omega arith in
       let taken : take e.at text ≡ first_field text 0 = rw (← q, z) at (end_taken text 0) in
@@ -318,7 +334,7 @@ module _ (text : List ℕ) where
       let ends = line_found text e.at end f within h in
       rw (r, taken, sym ends, ← (rw (← q) at (line_on_from text 0)))
 
-  pub no_form_read : (w : WordRead) → w ≡ first_word text →
+  pub no_form_read : (w : LineRead Word) → w ≡ first_word text →
       led_by server_word text ≡ false → led_by task_word text ≡ false → led_by tick_word text ≡ false →
-      record { line = Malformed w.word 0; end = w.end } ≡ first_read text
+      record { said = Malformed w.said 0; end = w.end } ≡ first_read text
   no_form_read w e s k t = rw (e, no_form s k t)

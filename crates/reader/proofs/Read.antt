@@ -4,26 +4,20 @@ use Rattle.std.proofs.Common.{None, Some, Ok}
 use mathlib.Core.Path.{◌≡◌, sym, ap, ◌∙◌, subst}
 use mathlib.Core.Bool.{true, false}
 use mathlib.Core.List.{List}
-use Prim.Native.Nat.{ℕ, ◌+◌, ◌-◌, ◌≤◌, ◌<◌}
+use Prim.Native.Nat.{ℕ, ◌+◌, ◌≤◌, ◌<◌}
 use native.Mathlib.Omega.{arith}
-use native.Mathlib.Nat.{zero-add}
-use lib.ListN.{length, take, drop}
-use Rattle.decimal.specs.Inner.Fields.{first_line}
+use lib.ListN.{length}
 use Rattle.table.specs.declared.Table.{Table}
 use Rattle.table.specs.declared.Refusal.TheVariants.{Malformed}
 use Rattle.table.specs.Pairs.{first_pair, equal_servers, equal_tasks}
 use Rattle.table.specs.Rows.{Rows, no_rows, rows_of, table_of}
 use Rattle.table.proofs.Pairs.{pair_found}
-use Rattle.text.specs.Line.{read_line}
 use Rattle.text.specs.Standing.{is_nil}
 use Rattle.text.specs.TableText.{read_lines, Read}
 use Rattle.text.specs.Read.{refused, equal, compared, ended, table_text, shown}
-use Rattle.reader.specs.declared.forms.LineRead.{LineRead}
 use Rattle.reader.specs.Inner.{Above}
-use Rattle.reader.specs.Inner.Lines.{first_read}
 use Rattle.text.proofs.RoundTrip.{table_rows}
 use Rattle.reader.proofs.Inner.{above_first}
-use Rattle.reader.proofs.TableText.{lent}
 
 -- both rows of an equal pair are below the count
 pub pair_below : (m n : ℕ) (q : ℕ → ℕ) (i j : ℕ) → m ≤ n → first_pair m q ≡ Some (i, j) →
@@ -61,11 +55,3 @@ starts t e = subst (Above 1) (sym e) above_first
 pub starts_from : (t : Table) (ls : List (List ℕ)) → t ≡ table_of no_rows →
     read_lines table_text 1 no_rows ls ≡ read_lines table_text 1 (rows_of t) ls
 starts_from t ls e = ap (λ x. read_lines table_text 1 x ls) (sym (ap rows_of e ∙ table_rows no_rows))
-
--- the line at the front of what is lent of the text
-pub line_lent : (text : List ℕ) (at : ℕ) (r : LineRead) →
-    r ≡ first_read (take (length text - at) (drop at text)) →
-    (r.line ≡ read_line (first_line (drop at text))) × (r.end ≡ length (first_line (drop at text)))
-line_lent text at r e =
-    let f = rw (lent text at) at e in
-    (ap (λ (x : LineRead). x.line) f, ap (λ (x : LineRead). x.end) f ∙ zero-add (length (first_line (drop at text))))

@@ -1,11 +1,9 @@
 -- How a line stands, by the counts of the rows above it and the two rows that it names, and what
 -- the bounds mean for its row. Assumes nothing.
-use mathlib.Core.Path.{◌≡◌, refl, sym}
-use mathlib.Core.Bool.{Bool, true, false}
-use Prim.Native.Nat.{ℕ, ◌+◌, ◌*◌, ◌-◌, ◌≤◌, ◌<◌}
+use mathlib.Core.Path.{◌≡◌}
+use mathlib.Core.Bool.{true}
+use Prim.Native.Nat.{ℕ, ◌*◌, ◌≤◌}
 use native.Mathlib.Omega.{arith}
-use lib.Dec.{leb}
-use borrow.Author.Tests.{leb-true, leb-false, le-leb, lt-leb}
 use Rattle.laws.specs.Choice.{every}
 use Rattle.laws.specs.Search.{least, first_failed}
 use Rattle.laws.specs.RoundUp.{up}
@@ -13,7 +11,7 @@ use Rattle.laws.proofs.Choice.{within_high, every_at}
 use Rattle.table.specs.declared.Table.{Table}
 use Rattle.table.specs.Rows.{rows_of, server_at}
 use Rattle.table.specs.Rules.{task_keeps}
-use Rattle.table.proofs.Rules.{place_below, rows_read}
+use Rattle.table.proofs.Rules.{rows_read}
 use Rattle.text.specs.declared.ServerLine.{ServerLine}
 use Rattle.text.specs.declared.TaskLine.{TaskLine}
 use Rattle.text.specs.declared.Word.TheVariants.{ATick, AServer, ATask}
@@ -24,13 +22,6 @@ use Rattle.reader.specs.declared.rules.Named.{Named}
 use Rattle.reader.specs.Inner.{Above, FewTicks, named_rows, standing_by}
 use Rattle.reader.proofs.Inner.{servers_count, tasks_count, servers_length, placed_by_lem}
 use Rattle.text.proofs.Bounds.{server_within}
-
--- where a row is read there is one
-pub named_below : (l : Line) → ((named_rows l).home < 32) × ((named_rows l).degraded < 32)
-named_below (OfTick u) = omega arith
-named_below (OfServer s) = omega arith
-named_below (OfTask k) = (place_below k.home, place_below k.degraded)
-named_below (MalformedLine word field) = omega arith
 
 -- what is asked of the rows above is how many there are, and for a task the two that it names
 pub standing_by_lem : (n : ℕ) (t : Table) → Above n t → (l : Line) (r : Named) → r ≡ named_rows l →
@@ -56,14 +47,6 @@ standing_by_lem n t a (OfTask k) r e =
           (omega (arith, a.servers)),
     )
 standing_by_lem n t a (MalformedLine word field) r e = rw (placed_by_lem t a.whole n word)
-
--- a tick is left of the period after a phase within it
-pub tick_left : (phase t period : ℕ) → phase ≤ period → leb t (period - phase) ≡ leb (phase + t) period
-tick_left phase t period h = go (leb t (period - phase)) refl
-  where
-    go : (b : Bool) → leb t (period - phase) ≡ b → b ≡ leb (phase + t) period
-    go true e = sym (le-leb (phase + t) period (omega (arith, leb-true t (period - phase) e)))
-    go false e = sym (lt-leb (phase + t) period (omega (arith, leb-false t (period - phase) e)))
 
 -- what the bounds say of the numbers of a row, in ticks
 pub record ServerFits (t : ℕ) (s : ServerLine) : Type 0 where

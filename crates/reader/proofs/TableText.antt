@@ -5,22 +5,40 @@ use mathlib.Core.Path.{◌≡◌, sym, ap, ◌∙◌}
 use mathlib.Core.List.{List, ◌∷◌}
 use Prim.Native.Nat.{ℕ, suc, ◌+◌, ◌-◌, ◌≤◌, ◌<◌}
 use native.Mathlib.Omega.{arith}
+use native.Mathlib.Nat.{zero-add}
 use lib.ListN.{length, take, drop, length-drop, drop_of_length-le}
 use lib.Seq.{take_all, drop-drop}
 use Rattle.decimal.specs.Lines.{line_feed, split}
 use Rattle.decimal.specs.Inner.Fields.{first_line}
 use Rattle.decimal.proofs.Lines.{split_some}
-use Rattle.decimal.proofs.Inner.Fields.{line_closed, line_open}
+use Rattle.decimal.proofs.Inner.Fields.{line_closed, line_open, line_within}
 use Rattle.table.specs.declared.Refusal.{Refusal}
 use Rattle.table.specs.declared.Refusal.TheVariants.{Malformed}
 use Rattle.text.specs.TableText.{refused_beside, line_told, TableText, read_lines}
 use Rattle.text.proofs.Standing.{not_nil}
 use Rattle.text.proofs.TableText.{from_line}
 use Rattle.table.specs.Refusals.{breaks}
+use Rattle.reader.specs.declared.forms.LineRead.{LineRead}
+use Rattle.reader.specs.Inner.Lines.{line_read}
 
 -- what is lent of the text, from a place on
-pub lent : (text : List ℕ) (at : ℕ) → take (length text - at) (drop at text) ≡ drop at text
+lent : (text : List ℕ) (at : ℕ) → take (length text - at) (drop at text) ≡ drop at text
 lent text at = take_all (length text - at) (drop at text) (omega (arith, length-drop at text))
+
+-- the line at the front of it
+pub line_lent : {L : Type 0} (says : List ℕ → L) (text : List ℕ) (at : ℕ) (r : LineRead L) →
+    let part = take (length text - at) (drop at text) in
+    r ≡ line_read part 0 (says (first_line part)) →
+    (r.said ≡ says (first_line (drop at text))) × (r.end ≡ length (first_line (drop at text)))
+line_lent {L} says text at r e =
+    let f = rw (lent text at) at e in (
+      ap (λ (x : LineRead L). x.said) f,
+      ap (λ (x : LineRead L). x.end) f ∙ zero-add (length (first_line (drop at text))),
+    )
+
+-- where a line ends
+pub within : (text : List ℕ) (at end : ℕ) → end ≡ length (first_line (drop at text)) → at ≤ length text → at + end ≤ length text
+within text at end e h = omega (arith, e, line_within (drop at text), length-drop at text)
 
 module _ {A L : Type 0} (k : TableText A L) where
   -- line n begins at `from` and ends at e

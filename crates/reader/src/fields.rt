@@ -4,7 +4,7 @@
 
 ghost use Rattle.std.specs.Prelude.{◌≡◌, ◌≤◌, ◌<◌, length};
 ghost use Rattle.text.specs.Line.{a_kind, a_level};
-ghost use Rattle.reader.specs.Inner.Fields.{expected_of, read_field, field_as, first_wrong, value_in, counted, fields_passed};
+ghost use Rattle.reader.specs.Inner.Fields.{expected_of, read_field, field_as, first_wrong, counted, fields_passed};
 
 use decimal::{Field, LINE_FEED};
 use table::THE_LINE;
@@ -12,9 +12,10 @@ use table::THE_LINE;
 // The most fields that a kind of line has after its leading word.
 pub const FIELDS: usize = 8;
 
-// The first field that is not as it should be, from 1, or 0 for their count; the number of each: the
-// worth of a number, the place of a word among those of its kind; how many were read; and where the
-// line ends.
+// The first field that is not as it should be, from 1, or 0 for their count; the number of each,
+// the worth of a number or the place of a word among those of its kind; how many were read; and
+// where the line ends.
+// Kept: an array beside wrong and count: as a Result it is copied for each line (docs/SPEED.md).
 #[derive(Clone, Copy)]
 pub struct Fields {
     pub wrong: Option<usize>,
@@ -23,7 +24,11 @@ pub struct Fields {
     pub end: usize,
 }
 
+// Kept: read_kind, read_level give numbers: one pass over any line fills one array (02, No. 2, 3).
+// Kept: is_same in a chain: a match on byte strings leaves a goal open for each byte of a word.
+
 // event 0, timed 1
+#[tactic(auto, using(crate::proofs::Inner::Fields::kinds))]
 fn read_kind(s: &[u8]) -> Option<u64>
     ensures { result ≡ read_field a_kind s.now }
 {
@@ -37,6 +42,7 @@ fn read_kind(s: &[u8]) -> Option<u64>
 }
 
 // LO 0, MI 1, HI 2
+#[tactic(auto, using(crate::proofs::Inner::Fields::levels))]
 fn read_level(s: &[u8]) -> Option<u64>
     ensures { result ≡ read_field a_level s.now }
 {
@@ -52,7 +58,11 @@ fn read_level(s: &[u8]) -> Option<u64>
     None
 }
 
+// Kept: shapes as letters, here and in read_fields: eight variants are no plainer than `nknnnnnn`.
+// Kept: text, at: a place in the text that is lent, since lines are read from its middle (01).
+
 // The field that begins at a place, by the letter of the shape.
+#[tactic(auto, using(crate::proofs::Inner::Fields::field_steps))]
 fn read_field(text: &[u8], at: usize, letter: u8) -> Field
     requires { at ≤ length text.now }
     ensures { result ≡ field_as (expected_of letter) text.now at }
@@ -61,12 +71,12 @@ fn read_field(text: &[u8], at: usize, letter: u8) -> Field
         return decimal::read_field(text, at);
     }
     let end = decimal::field_end(text, at);
-    let e = end.at;
-    if letter == b'k' {
-        let number = read_kind(&text[at..e]);
-        return Field { number, end };
-    }
-    let number = read_level(&text[at..e]);
+    let word = &text[at..end.at];
+    let number = if letter == b'k' {
+        read_kind(word)
+    } else {
+        read_level(word)
+    };
     Field { number, end }
 }
 
@@ -78,13 +88,6 @@ fn first_wrong(wrong: Option<usize>, n: Option<u64>, k: usize) -> Option<usize>
         Some(_) => wrong,
         None => wrong.or(Some(k)),
     }
-}
-
-// Of a field that is not as expected the number is never asked for.
-fn value_in(n: Option<u64>) -> u64
-    ensures { result ≡ value_in n }
-{
-    n.unwrap_or(0)
 }
 
 // The line ends after n fields: their count is told before any field.
@@ -104,15 +107,13 @@ pub(crate) fn read_fields(text: &[u8], from: usize, shape: &[u8], least: usize) 
     let mut values = [0; FIELDS];
     let mut wrong = None;
     let mut at = from;
-    for k in 0..shape.len() {
-        let f = read_field(text, at, shape[k]);
-        let n = f.number;
-        values[k] = value_in(n);
-        wrong = first_wrong(wrong, n, k + 1);
+    for (k, letter) in shape.iter().enumerate() {
+        let f = read_field(text, at, *letter);
+        values[k] = f.number.unwrap_or(0);
+        wrong = first_wrong(wrong, f.number, k + 1);
         if !f.end.more {
-            let told = count(wrong, k + 1, least);
             return Fields {
-                wrong: told,
+                wrong: count(wrong, k + 1, least),
                 values,
                 count: k + 1,
                 end: f.end.at,
@@ -120,11 +121,10 @@ pub(crate) fn read_fields(text: &[u8], from: usize, shape: &[u8], least: usize) 
         }
         at = f.end.at + 1;
     }
-    let end = decimal::find(text, at, LINE_FEED);
     Fields {
         wrong: Some(THE_LINE),
         values,
         count: shape.len(),
-        end,
+        end: decimal::find(text, at, LINE_FEED),
     }
 }

@@ -22,118 +22,107 @@ const BEHIND_SERVER: usize = 7;
 
 pub const BEHIND_TASK: usize = 5;
 
-// What a line says, and where it ends.
+// What a line says, or its leading word, and where the line ends.
 #[derive(Clone, Copy)]
-pub struct LineRead {
-    pub line: Line,
+pub struct LineRead<S> {
+    pub said: S,
     pub end: usize,
 }
+
+// Kept: kind_at, level_at: read_fields gave the number, so a TryFrom would never refuse.
 
 fn kind_at(v: u64) -> Kind
     ensures { result ≡ kind_at v }
 {
-    if v == 1 {
-        return Kind::Timed;
+    match v {
+        1 => Kind::Timed,
+        _ => Kind::Event,
     }
-    Kind::Event
 }
 
 fn level_at(v: u64) -> Level
     ensures { result ≡ level_at v }
 {
-    if v == 2 {
-        return Level::HI;
+    match v {
+        2 => Level::HI,
+        1 => Level::MI,
+        _ => Level::LO,
     }
-    if v == 1 {
-        return Level::MI;
-    }
-    Level::LO
 }
 
 // Field k, the last of its form, where a line of so many fields goes so far. Its number is v.
+// Kept: how many fields were read says whether the last one is there: values holds 0 for none.
 fn last_at(count: usize, k: usize, v: u64) -> Option<Micros>
     ensures { result ≡ last_of count k v }
 {
-    if count < k {
-        return None;
-    }
-    Some(Micros(v))
+    (k <= count).then_some(Micros(v))
 }
 
-fn tick_line(text: &[u8], from: usize) -> LineRead
+// Kept: tick_line, server_line, task_line: no `?`: where the line ends is told either way.
+// Kept: the two tick_line: each is one read and one match, and the matches give different lines.
+// Kept: text, from: a place in the text that is lent, since lines are read from its middle (01).
+
+fn tick_line(text: &[u8], from: usize) -> LineRead<Line>
     requires { from ≤ length text.now }
     ensures { result ≡ read_behind ATick text.now from }
 {
     let f = fields::read_fields(text, from, b"n", 1);
-    let end = f.end;
-    let wrong = f.wrong;
-    if let Some(field) = wrong {
-        let line = Line::Malformed(Word::ATick, field);
-        return LineRead { line, end };
-    }
-    let v = f.values;
-    let line = Line::OfTick(Micros(v[0]));
-    LineRead { line, end }
+    let said = match f.wrong {
+        Some(field) => Line::Malformed(Word::ATick, field),
+        None => Line::OfTick(Micros(f.values[0])),
+    };
+    LineRead { said, end: f.end }
 }
 
-fn server_line(text: &[u8], from: usize) -> LineRead
+fn server_line(text: &[u8], from: usize) -> LineRead<Line>
     requires { from ≤ length text.now }
     ensures { result ≡ read_behind AServer text.now from }
 {
     let f = fields::read_fields(text, from, b"nknnnnnn", 7);
-    let end = f.end;
-    let wrong = f.wrong;
-    if let Some(field) = wrong {
-        let line = Line::Malformed(Word::AServer, field);
-        return LineRead { line, end };
-    }
     let v = f.values;
-    let kind = kind_at(v[1]);
-    let phase = last_at(f.count, 8, v[7]);
-    let capacity = ByMode {
-        n: Micros(v[4]),
-        d1: Micros(v[5]),
-        d2: Micros(v[6]),
+    let said = match f.wrong {
+        Some(field) => Line::Malformed(Word::AServer, field),
+        None => Line::OfServer(ServerLine {
+            partition: v[0],
+            kind: kind_at(v[1]),
+            priority: v[2],
+            period: Micros(v[3]),
+            capacity: ByMode {
+                n: Micros(v[4]),
+                d1: Micros(v[5]),
+                d2: Micros(v[6]),
+            },
+            phase: last_at(f.count, 8, v[7]),
+        }),
     };
-    let line = Line::OfServer(ServerLine {
-        partition: v[0],
-        kind,
-        priority: v[2],
-        period: Micros(v[3]),
-        capacity,
-        phase,
-    });
-    LineRead { line, end }
+    LineRead { said, end: f.end }
 }
 
-fn task_line(text: &[u8], from: usize) -> LineRead
+fn task_line(text: &[u8], from: usize) -> LineRead<Line>
     requires { from ≤ length text.now }
     ensures { result ≡ read_behind ATask text.now from }
 {
     let f = fields::read_fields(text, from, b"nnnlnnn", 7);
-    let end = f.end;
-    let wrong = f.wrong;
-    if let Some(field) = wrong {
-        let line = Line::Malformed(Word::ATask, field);
-        return LineRead { line, end };
-    }
     let v = f.values;
-    let level = level_at(v[3]);
-    let limit = ByMode {
-        n: Micros(v[4]),
-        d1: Micros(v[5]),
-        d2: Micros(v[6]),
+    let said = match f.wrong {
+        Some(field) => Line::Malformed(Word::ATask, field),
+        None => Line::OfTask(TaskLine {
+            home: v[0],
+            degraded: v[1],
+            priority: v[2],
+            level: level_at(v[3]),
+            limit: ByMode {
+                n: Micros(v[4]),
+                d1: Micros(v[5]),
+                d2: Micros(v[6]),
+            },
+        }),
     };
-    let line = Line::OfTask(TaskLine {
-        home: v[0],
-        degraded: v[1],
-        priority: v[2],
-        level,
-        limit,
-    });
-    LineRead { line, end }
+    LineRead { said, end: f.end }
 }
 
+// Kept: is_same in a chain: a match on byte strings leaves a goal open for each byte of a word.
+#[tactic(auto, using(crate::proofs::Line::words))]
 fn leading_word(w: &[u8]) -> Word
     ensures { result ≡ leading w.now }
 {
@@ -149,37 +138,30 @@ fn leading_word(w: &[u8]) -> Word
     Word::Unknown
 }
 
+#[tactic(auto, using(crate::proofs::Line::same_places))]
 pub(crate) fn begins(text: &[u8], word: &[u8]) -> bool
     ensures { result ≡ same (take (length word.now) text.now) word.now }
 {
-    if text.len() < word.len() {
-        return false;
-    }
-    decimal::is_same(&text[..word.len()], word)
+    text.starts_with(word)
 }
 
-// The leading word of a line, and where the line ends.
-#[derive(Clone, Copy)]
-pub struct WordRead {
-    pub word: Word,
-    pub end: usize,
-}
-
-// Of the line at the front of some text.
-pub(crate) fn read_word(text: &[u8]) -> WordRead
+// The leading word of the line at the front of some text.
+pub(crate) fn read_word(text: &[u8]) -> LineRead<Word>
     ensures { result ≡ first_word text.now }
 {
-    let first = decimal::field_end(text, 0);
-    let e = first.at;
-    let word = leading_word(&text[..e]);
-    let end = decimal::find(text, e, LINE_FEED);
-    WordRead { word, end }
+    let e = decimal::field_end(text, 0).at;
+    LineRead {
+        said: leading_word(&text[..e]),
+        end: decimal::find(text, e, LINE_FEED),
+    }
 }
+
+// Kept: the two read_line: the words and forms differ, and a table of them would be longer.
 
 // The line at the front of some text. Its leading word, with the tab after it, is compared where it
 // stands; the fields are then read as the form of such a line asks. A word alone has no form: a
 // field is missing.
-pub(crate) fn read_line(text: &[u8]) -> LineRead
+pub(crate) fn read_line(text: &[u8]) -> LineRead<Line>
     ensures { result ≡ first_read text.now }
 {
     if begins(text, b"server\t") {
@@ -192,7 +174,8 @@ pub(crate) fn read_line(text: &[u8]) -> LineRead
         return tick_line(text, BEHIND_TICK);
     }
     let w = read_word(text);
-    let word = w.word;
-    let line = Line::Malformed(word, THE_LINE);
-    LineRead { line, end: w.end }
+    LineRead {
+        said: Line::Malformed(w.said, THE_LINE),
+        end: w.end,
+    }
 }

@@ -14,57 +14,45 @@ ghost use Rattle.frametable.specs.Line.{frame_word_of};
 ghost use Rattle.frametable.specs.Text.{frame_task_of, frame_placed, frame_task_bounds, frame_ended, frame_read, frame_shown};
 ghost use Rattle.reader.specs.Inner.Frame.{FrameAbove, frame_behind, first_frame_read, frame_task_standing, frame_standing_by};
 
+use crate::forms::LineRead;
 use crate::{FromText, fields, forms, rows, rules};
 use frametable::{FrameLine, FrameTable, FrameTask, FrameTaskLine};
 use table::{Fault, Refusal, TASKS, THE_LINE};
 use text::{LONGEST_TEXT, ReadError, Word};
 use units::Micros;
 
-// What a line says, and where it ends.
-#[derive(Clone, Copy)]
-pub struct FrameLineRead {
-    pub line: FrameLine,
-    pub end: usize,
-}
+// Kept: tick_line, task_line, read_line: as in forms.rt.
 
-fn tick_line(text: &[u8], from: usize) -> FrameLineRead
+fn tick_line(text: &[u8], from: usize) -> LineRead<FrameLine>
     requires { from ≤ length text.now }
     ensures { result ≡ frame_behind ATick text.now from }
 {
     let f = fields::read_fields(text, from, b"n", 1);
-    let end = f.end;
-    let wrong = f.wrong;
-    if let Some(field) = wrong {
-        let line = FrameLine::Malformed(Word::ATick, field);
-        return FrameLineRead { line, end };
-    }
-    let v = f.values;
-    let line = FrameLine::OfTick(Micros(v[0]));
-    FrameLineRead { line, end }
+    let said = match f.wrong {
+        Some(field) => FrameLine::Malformed(Word::ATick, field),
+        None => FrameLine::OfTick(Micros(f.values[0])),
+    };
+    LineRead { said, end: f.end }
 }
 
-fn task_line(text: &[u8], from: usize) -> FrameLineRead
+fn task_line(text: &[u8], from: usize) -> LineRead<FrameLine>
     requires { from ≤ length text.now }
     ensures { result ≡ frame_behind ATask text.now from }
 {
     let f = fields::read_fields(text, from, b"nnn", 3);
-    let end = f.end;
-    let wrong = f.wrong;
-    if let Some(field) = wrong {
-        let line = FrameLine::Malformed(Word::ATask, field);
-        return FrameLineRead { line, end };
-    }
-    let v = f.values;
-    let line = FrameLine::OfTask(FrameTaskLine {
-        partition: v[0],
-        priority: v[1],
-        limit: Micros(v[2]),
-    });
-    FrameLineRead { line, end }
+    let said = match f.wrong {
+        Some(field) => FrameLine::Malformed(Word::ATask, field),
+        None => FrameLine::OfTask(FrameTaskLine {
+            partition: f.values[0],
+            priority: f.values[1],
+            limit: Micros(f.values[2]),
+        }),
+    };
+    LineRead { said, end: f.end }
 }
 
 // The line at the front of some text. A `server` line has no form here, nor has a word alone.
-fn read_line(text: &[u8]) -> FrameLineRead
+fn read_line(text: &[u8]) -> LineRead<FrameLine>
     ensures { result ≡ first_frame_read text.now }
 {
     if forms::begins(text, b"task\t") {
@@ -74,10 +62,13 @@ fn read_line(text: &[u8]) -> FrameLineRead
         return tick_line(text, forms::BEHIND_TICK);
     }
     let w = forms::read_word(text);
-    let word = w.word;
-    let line = FrameLine::Malformed(word, THE_LINE);
-    FrameLineRead { line, end: w.end }
+    LineRead {
+        said: FrameLine::Malformed(w.said, THE_LINE),
+        end: w.end,
+    }
 }
+
+// Kept: tick, tasks: as in rules.rt, whose reasons hold here.
 
 // A limit is rounded up and then 1 to 100,000 ticks exactly if it is 1 microsecond to 100,000
 // ticks.
@@ -92,6 +83,7 @@ fn task_bounds(rows: usize, tick: Micros, k: FrameTaskLine) -> Option<usize>
     laws::first_failed(&[rows < TASKS, partition, priority, limit])
 }
 
+#[tactic(auto, unfolding(frametable::specs::Text::frame_placed))]
 fn is_placed(n: usize, word: Word) -> bool
     ensures { result ≡ frame_placed n word }
 {
@@ -103,6 +95,7 @@ fn is_placed(n: usize, word: Word) -> bool
     }
 }
 
+// Kept: a From would stand in crate frametable, away from is_placed, for which alone it is asked.
 fn word_of(l: FrameLine) -> Word
     ensures { result ≡ frame_word_of l }
 {
@@ -118,10 +111,7 @@ fn task_standing(tick: Micros, tasks: usize, k: FrameTaskLine) -> Result<(), Fau
     requires { tick_keeps tick.0 ≡ true }
     ensures { result ≡ frame_task_standing tick.0 tasks k }
 {
-    if let Some(field) = task_bounds(tasks, tick, k) {
-        return Err(Fault { why: Refusal::OutOfBounds, field });
-    }
-    Ok(())
+    rules::told(Refusal::OutOfBounds, task_bounds(tasks, tick, k))
 }
 
 // n is the line's number. Of the rows above it these are the tick and how many there are.
@@ -129,32 +119,37 @@ fn line_standing(n: usize, tick: Micros, tasks: usize, l: FrameLine) -> Result<(
     requires { 1 < n → tick_keeps tick.0 ≡ true }
     ensures { result ≡ frame_standing_by n tick.0 tasks l }
 {
-    let word = word_of(l);
-    if !is_placed(n, word) {
-        return Err(Fault { why: Refusal::Malformed, field: THE_LINE });
+    if !is_placed(n, word_of(l)) {
+        return Err(Fault {
+            why: Refusal::Malformed,
+            field: THE_LINE,
+        });
     }
     match l {
         FrameLine::OfTick(u) => rules::tick_standing(u),
         FrameLine::OfTask(k) => task_standing(tick, tasks, k),
-        FrameLine::Malformed(_, field) => Err(Fault { why: Refusal::Malformed, field }),
+        FrameLine::Malformed(_, field) => Err(Fault {
+            why: Refusal::Malformed,
+            field,
+        }),
     }
 }
 
 // A line's row. The line keeps the rules, so that every number fits.
+#[tactic(auto, using(crate::proofs::FrameText::frame_task_fits))]
 fn task_row(tick: Micros, k: FrameTaskLine) -> FrameTask
     requires { (0 < tick.0) × (every (frame_task_keeps (frame_task_of tick.0 k)) ≡ true) }
     ensures { result ≡ frame_task_of tick.0 k }
 {
-    let u = k.limit;
-    let limit = rows::round_up(u, tick);
     FrameTask {
         partition: k.partition as u8,
         priority: k.priority as u8,
-        limit,
+        limit: rows::round_up(k.limit, tick),
     }
 }
 
 // The text ends before line n, t holding its rows. Row 0 stands on line 2.
+// Kept: the two end: a frame's text has one kind of rows, with no servers above them.
 fn end(n: usize, t: FrameTable) -> Result<FrameTable, ReadError>
     requires { FrameAbove n t }
     ensures { result ≡ handed (frame_shown (frame_ended n (frame_rows_of t))) }
@@ -174,6 +169,8 @@ fn end(n: usize, t: FrameTable) -> Result<FrameTable, ReadError>
     }
     Ok(t)
 }
+
+// Kept: at, n by hand, and no one walk with read_table: as lib.rt says of both.
 
 // What a text says: its table, or why it is none. Line n begins at `at`, and the text is lent from
 // there on; the walk that reads the line finds where it ends, and its row is put behind those in
@@ -204,14 +201,14 @@ pub fn read_frame(text: &[u8]) -> Result<FrameTable, ReadError>
                 field: THE_LINE,
             });
         }
-        if let Err(fault) = line_standing(n, t.tick, t.ntasks, r.line) {
+        if let Err(fault) = line_standing(n, t.tick, t.ntasks, r.said) {
             return Err(ReadError::Refused {
                 why: fault.why,
                 line: n,
                 field: fault.field,
             });
         }
-        match r.line {
+        match r.said {
             FrameLine::OfTick(u) => {
                 t.tick = u;
             }

@@ -48,11 +48,15 @@ fn end(n: usize, t: Table) -> Result<Table, ReadError>
     Ok(t)
 }
 
+// Kept: one walk would need a trait of five methods, each with its law; the two are shorter.
+// Kept: at, n by hand: where a line ends is found by the pass that reads it, and not before.
+
 // What a text says: its table, or why it is none. "a line begins anywhere in the lent text and is
 // read there": line n begins at `at`, and the text is lent from there on; the walk that reads the
 // line finds where it ends. A line is judged by the two rows that it names, and its row is put
 // behind those in use: a table or an array of rows handed to a function would be copied whole, for
 // every line.
+// Kept: no `?` in the walks: a fault has no line number, which a From could not add.
 pub fn read_table(text: &[u8]) -> Result<Table, ReadError>
     ensures { result ≡ handed (shown (read text.now)) }
 {
@@ -79,18 +83,17 @@ pub fn read_table(text: &[u8]) -> Result<Table, ReadError>
                 field: THE_LINE,
             });
         }
-        let named = rules::named_rows(r.line);
+        let named = rules::named_rows(r.said);
         let h = t.servers[named.home];
         let d = t.servers[named.degraded];
-        let standing = rules::line_standing(n, t.tick, t.nservers, t.ntasks, h, d, r.line);
-        if let Err(fault) = standing {
+        if let Err(fault) = rules::line_standing(n, t.tick, t.nservers, t.ntasks, h, d, r.said) {
             return Err(ReadError::Refused {
                 why: fault.why,
                 line: n,
                 field: fault.field,
             });
         }
-        match r.line {
+        match r.said {
             Line::OfTick(u) => {
                 t.tick = u;
             }

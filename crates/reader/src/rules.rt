@@ -8,26 +8,27 @@ ghost use Rattle.std.specs.Prelude.{◌≡◌, true, ◌+◌, ◌≤◌, ◌<◌
 ghost use Rattle.laws.specs.Search.{first_failed};
 ghost use Rattle.table.specs.Rules.{tick_keeps};
 ghost use Rattle.text.specs.Line.{word_of};
-ghost use Rattle.text.specs.Standing.{server_bounds, server_whole, task_bounds};
+ghost use Rattle.text.specs.Standing.{server_bounds, server_whole, task_bounds, tell◌at◌or◌};
 ghost use Rattle.reader.specs.Inner.{placed_by, tick_standing, server_standing, task_standing};
 ghost use Rattle.reader.specs.Inner.{named_rows, standing_by};
 
 use crate::rows;
-use table::{Refusal, SERVERS, Server, Fault, TASKS, THE_LINE};
+use table::{Fault, Refusal, SERVERS, Server, TASKS, THE_LINE};
 use text::{Line, ServerLine, TaskLine, Word};
 use units::Micros;
+
+// Kept: tick, counts, h, d: each rule asks for others of them; table::rows_fault takes h and d.
+// Kept: bounds of the tick in contracts: before line 1 the tick is 0, and Micros is bare (01).
 
 // Whether a tick of the period is left after the phase: "a phase above the period less one tick, in
 // microseconds, is 2".
 fn leaves_a_tick(phase: Micros, tick: Micros, period: Micros) -> bool
     ensures { result ≡ leb (phase.0 + tick.0) period.0 }
 {
-    if period.0 < phase.0 {
-        return false;
-    }
-    tick.0 <= period.0 - phase.0
+    phase.0 <= period.0 && tick.0 <= period.0 - phase.0
 }
 
+#[tactic(auto, unfolding(text::specs::Standing::server_bounds))]
 fn server_bounds(rows: usize, tick: Micros, s: ServerLine) -> Option<usize>
     requires { tick.0 ≤ 10000 }
     ensures { result ≡ first_failed (server_bounds rows tick.0 s) }
@@ -37,9 +38,7 @@ fn server_bounds(rows: usize, tick: Micros, s: ServerLine) -> Option<usize>
     let period = s.period.0;
     let lasts = laws::is_within(tick.0, 1000000 * tick.0, period);
     let c = s.capacity;
-    let last = s.phase;
-    let said = rows::phase_said(last);
-    let starts = leaves_a_tick(said, tick, s.period);
+    let starts = leaves_a_tick(rows::phase_said(s.phase), tick, s.period);
     laws::first_failed(&[
         rows < SERVERS,
         partition,
@@ -53,14 +52,14 @@ fn server_bounds(rows: usize, tick: Micros, s: ServerLine) -> Option<usize>
     ])
 }
 
+#[tactic(auto, unfolding(text::specs::Standing::server_whole))]
 fn server_whole(tick: Micros, s: ServerLine) -> Option<usize>
     requires { 0 < tick.0 }
     ensures { result ≡ first_failed (server_whole tick.0 s) }
 {
     let period = s.period.0;
     let c = s.capacity;
-    let last = s.phase;
-    let phase = rows::phase_said(last).0;
+    let phase = rows::phase_said(s.phase).0;
     laws::first_failed(&[
         true,
         true,
@@ -95,17 +94,13 @@ fn is_placed(n: usize, servers: usize, tasks: usize, word: Word) -> bool
 {
     match word {
         Word::ATick => n == 1,
-        Word::AServer => {
-            if n <= 1 {
-                return false;
-            }
-            tasks == 0
-        }
+        Word::AServer => 1 < n && tasks == 0,
         Word::ATask => servers != 0,
         Word::Unknown => false,
     }
 }
 
+// Kept: a From would stand in crate text, away from is_placed, for which alone it is asked.
 fn word_of(l: Line) -> Word
     ensures { result ≡ word_of l }
 {
@@ -117,12 +112,26 @@ fn word_of(l: Line) -> Word
     }
 }
 
+// What the first test of a rule that fails breaks, if one does.
+pub(crate) fn told(why: Refusal, failed: Option<usize>) -> Result<(), Fault>
+    ensures { result ≡ (tell why at failed or (Ok tt)) }
+{
+    match failed {
+        Some(field) => Err(Fault { why, field }),
+        None => Ok(()),
+    }
+}
+
 // Lines of each kind, in their place.
+#[tactic(auto, unfolding(laws::specs::Search::first_failed, laws::specs::Search::least))]
 pub(crate) fn tick_standing(u: Micros) -> Result<(), Fault>
     ensures { result ≡ tick_standing u }
 {
     if !laws::is_within(1, 10000, u.0) {
-        return Err(Fault { why: Refusal::OutOfBounds, field: 1 });
+        return Err(Fault {
+            why: Refusal::OutOfBounds,
+            field: 1,
+        });
     }
     Ok(())
 }
@@ -131,13 +140,8 @@ fn server_standing(tick: Micros, servers: usize, s: ServerLine) -> Result<(), Fa
     requires { tick_keeps tick.0 ≡ true }
     ensures { result ≡ server_standing tick.0 servers s }
 {
-    if let Some(field) = server_bounds(servers, tick, s) {
-        return Err(Fault { why: Refusal::OutOfBounds, field });
-    }
-    if let Some(field) = server_whole(tick, s) {
-        return Err(Fault { why: Refusal::NotWhole, field });
-    }
-    Ok(())
+    told(Refusal::OutOfBounds, server_bounds(servers, tick, s))?;
+    told(Refusal::NotWhole, server_whole(tick, s))
 }
 
 fn task_standing(
@@ -151,13 +155,12 @@ fn task_standing(
     requires { tick_keeps tick.0 ≡ true }
     ensures { result ≡ task_standing tick.0 h d count tasks k }
 {
-    if let Some(field) = task_bounds(tasks, tick, k) {
-        return Err(Fault { why: Refusal::OutOfBounds, field });
-    }
-    let x = k.limit;
-    let limit = rows::limits(x, tick);
+    told(Refusal::OutOfBounds, task_bounds(tasks, tick, k))?;
+    let limit = rows::limits(k.limit, tick);
     table::rows_fault(count, h, d, k.home, k.degraded, limit)
 }
+
+// Kept: rows 0 where none is named: an Option would have to be asked before each row is read.
 
 // Where the two server rows that a task line names are read; for a line that names none, row 0 is.
 #[derive(Clone, Copy)]
@@ -169,19 +172,15 @@ pub struct Named {
 pub(crate) fn named_rows(l: Line) -> Named
     ensures { result ≡ named_rows l }
 {
-    let none = Named {
-        home: 0,
-        degraded: 0,
-    };
     match l {
-        Line::OfTick(_) => none,
-        Line::OfServer(_) => none,
-        Line::OfTask(k) => {
-            let home = table::row_in(k.home);
-            let degraded = table::row_in(k.degraded);
-            Named { home, degraded }
-        }
-        Line::Malformed(_, _) => none,
+        Line::OfTask(k) => Named {
+            home: table::row_in(k.home),
+            degraded: table::row_in(k.degraded),
+        },
+        _ => Named {
+            home: 0,
+            degraded: 0,
+        },
     }
 }
 
@@ -200,14 +199,19 @@ pub(crate) fn line_standing(
     requires { (n ≤ 1 → servers ≡ 0) × (1 < n → tick_keeps tick.0 ≡ true) }
     ensures { result ≡ standing_by n tick.0 servers tasks h d l }
 {
-    let word = word_of(l);
-    if !is_placed(n, servers, tasks, word) {
-        return Err(Fault { why: Refusal::Malformed, field: THE_LINE });
+    if !is_placed(n, servers, tasks, word_of(l)) {
+        return Err(Fault {
+            why: Refusal::Malformed,
+            field: THE_LINE,
+        });
     }
     match l {
         Line::OfTick(u) => tick_standing(u),
         Line::OfServer(s) => server_standing(tick, servers, s),
         Line::OfTask(k) => task_standing(tick, h, d, servers, tasks, k),
-        Line::Malformed(_, field) => Err(Fault { why: Refusal::Malformed, field }),
+        Line::Malformed(_, field) => Err(Fault {
+            why: Refusal::Malformed,
+            field,
+        }),
     }
 }

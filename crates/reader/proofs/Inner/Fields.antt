@@ -1,9 +1,10 @@
 -- One pass over the fields of a line: what it finds field by field is the first that is not as it
 -- should be, 0 for their count, and the number of each. By induction over the fields, with what is
 -- expected of each. Assumes nothing.
-use Rattle.std.specs.Prelude.{if◌then◌else◌, None, Option, Some}
+use Rattle.std.specs.Cmp.{first_so, second_so}
+use Rattle.std.specs.Prelude.{if◌then◌else◌, None, Option, Some, unwrap_or}
 use mathlib.Core.Path.{◌≡◌, refl, ap, ◌∙◌}
-use mathlib.Core.Bool.{Bool, true, false, ◌||◌}
+use mathlib.Core.Bool.{Bool, true, false}
 use mathlib.Core.List.{List, [], ◌∷◌, map}
 use Prim.Native.Nat.{ℕ, zero, suc, ◌+◌, ◌-◌, ◌≤◌, ◌<◌}
 use native.Mathlib.Omega.{arith}
@@ -15,20 +16,20 @@ use lib.Seq.{drop-cons, get_or-set_same, get_or-set_other}
 use borrow.Author.Tests.{ltb-true, ltb-false, lt-leb}
 use Rattle.laws.specs.Choice.{every, within}
 use Rattle.laws.specs.Search.{first_failed}
-use Rattle.laws.proofs.Choice.{and_left, and_right, if_ind, or_true_left, or_true_right, within_high, is_within}
+use Rattle.laws.proofs.Choice.{if_ind, within_high, is_within}
 use Rattle.laws.proofs.Search.{failed_none, failed_empty, failed_here, one_past, failed_past}
 use Rattle.decimal.specs.Number.{read_number}
 use Rattle.decimal.specs.declared.End.{End}
 use Rattle.decimal.specs.declared.Field.{Field}
-use Rattle.decimal.specs.Lines.{tab, same}
+use Rattle.decimal.specs.Lines.{tab}
 use Rattle.decimal.specs.Inner.Fields.{first_line, fields_from, first_field, field_end, field_from}
 use Rattle.decimal.proofs.Lines.{split_some}
-use Rattle.decimal.proofs.Inner.Fields.{end_taken, field_more, field_last, line_behind_tab}
+use Rattle.decimal.proofs.Inner.Fields.{end_taken, end_from, end_within, field_more, field_last, line_behind_tab}
 use Rattle.text.specs.Words.{event_word, timed_word, lo_word, mi_word, hi_word}
-use Rattle.text.specs.Line.{Expected, a_number, a_kind, a_level, fits, Form, field_tests, form_tests}
+use Rattle.text.specs.Line.{Expected, a_number, fits, Form, field_tests, form_tests}
 use Rattle.text.proofs.Lines.{form_count}
 use Rattle.reader.specs.declared.fields.Fields.{Fields}
-use Rattle.reader.specs.Inner.Fields.{expected_of, value_of, read_field, field_as, line_end, first_wrong, value_in, no_fields, noted, counted, telling, passed}
+use Rattle.reader.specs.Inner.Fields.{expected_of, value_of, read_field, field_as, line_end, first_wrong, no_fields, noted, counted, telling, passed}
 
 -- one field, read where it stands
 pub number_field_lem : (text : List ℕ) (at : ℕ) → field_from text at ≡ field_as a_number text at
@@ -40,40 +41,37 @@ pub word_field : (x : Expected) (text : List ℕ) (at : ℕ) (n : Option ℕ) (e
 unfolding field_as
 word_field x text at n e q r = rw (r, q, end_taken text at)
 
-module _ (f : List ℕ) where
-  pub kind_timed : same f timed_word ≡ true → Some 1 ≡ read_field a_kind f
-  unfolding read_field
-  kind_timed e = rw (or_true_right (same f event_word) (same f timed_word) e, e)
+-- and the place of the field lies in the text
+pub ruleset field_steps = (number_field_lem, word_field, end_from, end_within)
 
-  pub kind_event : same f timed_word ≡ false → same f event_word ≡ true → Some 0 ≡ read_field a_kind f
-  unfolding read_field
-  kind_event t e = rw (e, t)
+-- a field that is a word, the words byte by byte
+pub read_by : (e : Expected) (f : List ℕ) → read_field e f ≡ (if fits e f then Some (value_of e f) else None)
+unfolding read_field
+read_by e f = refl
 
-  pub kind_none : same f timed_word ≡ false → same f event_word ≡ false → None ≡ read_field a_kind f
-  unfolding read_field
-  kind_none t e = rw (e, t)
+pub timed_bytes : timed_word ≡ 116 ∷ 105 ∷ 109 ∷ 101 ∷ 100 ∷ []
+unfolding timed_word
+timed_bytes = refl
 
-  pub level_hi : same f hi_word ≡ true → Some 2 ≡ read_field a_level f
-  unfolding read_field
-  level_hi h =
-      let e = or_true_right (same f mi_word) (same f hi_word) h in
-      rw (or_true_right (same f lo_word) (same f mi_word || same f hi_word) e, h)
+pub event_bytes : event_word ≡ 101 ∷ 118 ∷ 101 ∷ 110 ∷ 116 ∷ []
+unfolding event_word
+event_bytes = refl
 
-  pub level_mi : same f hi_word ≡ false → same f mi_word ≡ true → Some 1 ≡ read_field a_level f
-  unfolding read_field
-  level_mi h m =
-      let e = or_true_left (same f mi_word) (same f hi_word) m in
-      rw (or_true_right (same f lo_word) (same f mi_word || same f hi_word) e, h, m)
+pub hi_bytes : hi_word ≡ 72 ∷ 73 ∷ []
+unfolding hi_word
+hi_bytes = refl
 
-  pub level_lo : same f hi_word ≡ false → same f mi_word ≡ false → same f lo_word ≡ true →
-      Some 0 ≡ read_field a_level f
-  unfolding read_field
-  level_lo h m l = rw (l, h, m)
+pub mi_bytes : mi_word ≡ 77 ∷ 73 ∷ []
+unfolding mi_word
+mi_bytes = refl
 
-  pub level_none : same f hi_word ≡ false → same f mi_word ≡ false → same f lo_word ≡ false →
-      None ≡ read_field a_level f
-  unfolding read_field
-  level_none h m l = rw (l, h, m)
+pub lo_bytes : lo_word ≡ 76 ∷ 79 ∷ []
+unfolding lo_word
+lo_bytes = refl
+
+pub ruleset kinds = (read_by, timed_bytes, event_bytes)
+
+pub ruleset levels = (read_by, hi_bytes, mi_bytes, lo_bytes)
 
 read_fits : (e : Expected) (f : List ℕ) → fits e f ≡ true → read_field e f ≡ Some (value_of e f)
 unfolding read_field
@@ -84,7 +82,7 @@ unfolding read_field
 read_not e f h = rw h
 
 pub noted_by : (r : Fields) (k : ℕ) (n : Option ℕ) (w : Option ℕ) (v : ℕ) → w ≡ first_wrong r.wrong n (k + 1) →
-    v ≡ value_in n → record { wrong = w; values = set r.values k v; count = k + 1; end = r.end } ≡ noted r k n
+    v ≡ unwrap_or n 0 → record { wrong = w; values = set r.values k v; count = k + 1; end = r.end } ≡ noted r k n
 noted_by r k n w v e f = rw (e, f)
 
 -- the pass, a field further
@@ -242,10 +240,10 @@ unfolding passed
 pass_below least es k r [] j h = refl
 pass_below least [] k r (f ∷ fs) j h = refl
 pass_below least (e ∷ es) k r (f ∷ []) j h =
-    get_or-set_other r.values k j (value_in (read_field e f)) 0 (λ e. omega arith)
+    get_or-set_other r.values k j (unwrap_or (read_field e f) 0) 0 (λ e. omega arith)
 pass_below least (e ∷ es) k r (f ∷ (g ∷ fs)) j h =
     pass_below least es (k + 1) (noted r k (read_field e f)) (g ∷ fs) j (omega arith)
-    ∙ get_or-set_other r.values k j (value_in (read_field e f)) 0 (λ e. omega arith)
+    ∙ get_or-set_other r.values k j (unwrap_or (read_field e f) 0) 0 (λ e. omega arith)
 
 noted_here : (r : Fields) (k : ℕ) (e : Expected) (f : List ℕ) → fits e f ≡ true →
     k < length r.values →
@@ -261,18 +259,18 @@ pass_value least es k r [] a n l i h = absurd (omega arith)
 pass_value least [] k r (f ∷ fs) a n l i h = absurd (omega arith)
 pass_value least (e ∷ es) k r (f ∷ []) a n l zero h =
     rw (add-zero k)
-    (noted_here r k e f (and_left (fits e f) true a) (omega arith))
+    (noted_here r k e f (first_so (fits e f) true a) (omega arith))
 pass_value least (e ∷ es) k r (f ∷ []) a n l (suc i) h = absurd (omega arith)
 pass_value least (e ∷ es) k r (f ∷ (g ∷ fs)) a n l zero h =
     rw (add-zero k)
     (pass_below least es (k + 1) (noted r k (read_field e f)) (g ∷ fs) k (omega arith)
-    ∙ noted_here r k e f (and_left (fits e f) (every (field_tests es (g ∷ fs))) a) (omega arith))
+    ∙ noted_here r k e f (first_so (fits e f) (every (field_tests es (g ∷ fs))) a) (omega arith))
 pass_value least (e ∷ es) k r (f ∷ (g ∷ fs)) a n l (suc i) h =
     let q : k + suc i ≡ k + 1 + i = omega arith in
     rw q
     (pass_value least es (k + 1) (noted r k (read_field e f)) (g ∷ fs)
-    (and_right (fits e f) (every (field_tests es (g ∷ fs))) a) (omega arith)
-    (omega (arith, length-set r.values k (value_in (read_field e f)))) i (omega arith))
+    (second_so (fits e f) (every (field_tests es (g ∷ fs))) a) (omega arith)
+    (omega (arith, length-set r.values k (unwrap_or (read_field e f) 0))) i (omega arith))
 
 -- how many there are
 pass_count : (least : ℕ) (es : List Expected) (k : ℕ) (r : Fields) (fs : List (List ℕ)) →
@@ -323,7 +321,7 @@ module _ (form : Form) (fs : List (List ℕ)) (end : ℕ) where
       let t = every (field_tests form.fields fs) in
       let a = (failed_none (form_tests form fs)).0 w in
       rw (zero-add i) at
-      (pass_value form.least form.fields 0 (no_fields end) fs (and_right c t a) (form_count form fs a).1
+      (pass_value form.least form.fields 0 (no_fields end) fs (second_so c t a) (form_count form fs a).1
       (omega arith) i h)
 
   pub pass_many : first_failed (form_tests form fs) ≡ None → 0 < length fs →

@@ -1,7 +1,7 @@
 -- Only contracts of inner functions cite this file; a buyer need not read it. It says what one pass
 -- over the fields of a line finds: the first field that is not as it should be, the number of each,
 -- how many there are, and where the line ends.
-use Rattle.std.specs.Prelude.{List, [], ◌∷◌, map, ℕ, ◌+◌, ltb, eqb, length, drop, set, replicate, if◌then◌else◌, None, Option, Some}
+use Rattle.std.specs.Prelude.{List, [], ◌∷◌, map, ℕ, ◌+◌, ltb, eqb, length, drop, set, replicate, if◌then◌else◌, None, Option, Some, unwrap_or}
 use Rattle.decimal.specs.Number.{worth}
 use Rattle.decimal.specs.declared.Field.{Field}
 use Rattle.decimal.specs.Lines.{same}
@@ -53,20 +53,17 @@ first_wrong wrong (Some v) k = wrong
 first_wrong (Some j) None k = Some j
 first_wrong None None k = Some k
 
-abbrev pub value_in : Option ℕ → ℕ
-value_in (Some v) = v
-value_in None = 0
-
 -- nothing is told yet of a line that ends at a place
 abbrev pub no_fields : ℕ → Fields
 no_fields end = record { wrong = None; values = replicate 8 0; count = 0; end = end }
 
--- with field k, from 0, as it was read
+-- With field k, from 0, as it was read. Of a field that is not as expected the number is never
+-- asked for.
 abbrev pub noted : Fields → ℕ → Option ℕ → Fields
 noted r k n =
     record {
       wrong = first_wrong r.wrong n (k + 1);
-      values = set r.values k (value_in n);
+      values = set r.values k (unwrap_or n 0);
       count = k + 1;
       end = r.end;
     }

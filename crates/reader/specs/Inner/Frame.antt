@@ -16,22 +16,18 @@ use Rattle.frametable.specs.declared.FrameTable.{FrameTable}
 use Rattle.frametable.specs.Rows.{frame_rows_of, frame_table_of}
 use Rattle.frametable.specs.Line.{frame_word_of, frame_line_by, read_frame_line}
 use Rattle.frametable.specs.Text.{frame_placed, frame_task_bounds}
-use Rattle.reader.specs.declared.frame.FrameLineRead.{FrameLineRead}
+use Rattle.reader.specs.declared.forms.LineRead.{LineRead}
 use Rattle.reader.specs.Inner.{tick_standing}
-use Rattle.reader.specs.Inner.Fields.{line_end}
+use Rattle.reader.specs.Inner.Lines.{line_read}
 use Rattle.table.specs.Refusals.{breaks, Standing}
 
--- where the line ends in which a place of a text lies
-abbrev pub frame_line_read : List ℕ → ℕ → FrameLine → FrameLineRead
-frame_line_read text from line = record { line = line; end = line_end text from }
-
 -- the fields from a place on, behind a leading word
-abbrev pub frame_behind : Word → List ℕ → ℕ → FrameLineRead
-frame_behind word text from = frame_line_read text from (frame_line_by word (fields_from text from))
+abbrev pub frame_behind : Word → List ℕ → ℕ → LineRead FrameLine
+frame_behind word text from = line_read text from (frame_line_by word (fields_from text from))
 
 -- the line at the front of a text
-abbrev pub first_frame_read : List ℕ → FrameLineRead
-first_frame_read text = frame_line_read text 0 (read_frame_line (first_line text))
+abbrev pub first_frame_read : List ℕ → LineRead FrameLine
+first_frame_read text = line_read text 0 (read_frame_line (first_line text))
 
 -- The table holds the rows above line n and nothing else. All lines but the first stand below a
 -- `tick` line.

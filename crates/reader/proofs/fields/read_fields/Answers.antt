@@ -1,7 +1,7 @@
 -- `reader::fields::read_fields` meets its contract: k fields are behind `at`, and those from there
 -- on give the rest; the line ends where it does seen from there. Assumes nothing.
 use Rattle.std.proofs.Common.{Option}
-use mathlib.Core.Path.{◌≡◌, refl, sym, ap, ◌∙◌}
+use mathlib.Core.Path.{◌≡◌, sym, ap, ◌∙◌}
 use mathlib.Core.List.{List, map}
 use Prim.Native.Nat.{ℕ, ◌+◌}
 use native.Mathlib.Omega.{arith}
@@ -13,9 +13,6 @@ use Rattle.reader.specs.declared.fields.Fields.{Fields}
 use Rattle.reader.specs.Inner.Fields.{expected_of, line_end, counted, telling, passed}
 use Rattle.reader.proofs.Inner.Fields.{noted_by, pass_next, pass_last, pass_over, line_next, line_last, next_within}
 use Rattle.reader.proofs.fields.read_fields.Goals as goal
-
-pub loop-k-init : goal.loop-k-init
-loop-k-init c = (omega arith, omega arith, refl, refl)
 
 -- what the fields before k gave
 abbrev before : Option ℕ → List ℕ → ℕ → List ℕ → ℕ → Fields
@@ -29,10 +26,10 @@ returns-then-not-f c =
     let none = not-true _ c.if-not-f.true in
     let b = before l.wrong l.values l.k a.text.now a.from in
     let with_it = noted_by b l.k f.result.number
-    c.first_wrong-wrong.result c.value_in.result c.first_wrong-wrong.ensures c.value_in.ensures in
+    c.first_wrong-wrong.result c.unwrap_or.result c.first_wrong-wrong.ensures c.unwrap_or.ensures in
     let ends = line_last a.least a.text.now a.shape.now l.k l.at b f.result
     (omega arith) f.ensures none in
-    rw (c.count-told.ensures, sym (l.invariant.3 ∙ ends))
+    rw (c.count.ensures, sym (l.invariant.3 ∙ ends))
     (ap (λ (x : Fields). telling (counted a.least (l.k + 1) x.wrong) x) with_it
     ∙ sym
     (l.invariant.2
@@ -56,7 +53,7 @@ loop-k-preserved c =
     let more = not-false _ c.if-not-f.false in
     let b = before l.wrong l.values l.k a.text.now a.from in
     let with_it = noted_by b l.k f.result.number
-    c.first_wrong-wrong.result c.value_in.result c.first_wrong-wrong.ensures c.value_in.ensures in
+    c.first_wrong-wrong.result c.unwrap_or.result c.first_wrong-wrong.ensures c.unwrap_or.ensures in
     let onward = next_within a.least a.text.now a.shape.now l.k l.at b f.result (omega arith) f.ensures more in (
       omega arith,
       omega (arith, onward),
@@ -74,7 +71,7 @@ pub returns : goal.returns
 returns c =
     let l = c.loop-k in
     let a = c.args in
-    let ends = line_found a.text.now l.at c.find-end.result c.find-end.ensures.value l.invariant.1 (c.find-end.ensures.upper_bound l.invariant.1) in
+    let ends = line_found a.text.now l.at c.find.result c.find.ensures.value l.invariant.1 (c.find.ensures.upper_bound l.invariant.1) in
     let all : length a.shape.now ≡ l.k = omega arith in
     rw (all, sym (l.invariant.3 ∙ ends))
     (pass_over a.least a.text.now a.shape.now l.k l.at

@@ -18,13 +18,13 @@ lies text e q = omega (arith, ap (λ (x : End). x.at) q, end_within text 0 (omeg
 
 pub slice_bounds-leading_word-end : goal.slice_bounds-leading_word-end
 slice_bounds-leading_word-end c =
-    let e = c.field_end-first in
+    let e = c.field_end-e in
     sym (length-take-le e.result.at c.args.text.now (lies c.args.text.now e.result e.ensures))
 
 pub returns : goal.returns
 returns c =
-    let e = c.field_end-first in
-    let f = c.find-end in
-    word_read c.args.text.now e.result c.leading_word-word.result f.result
-    e.ensures c.leading_word-word.ensures f.ensures.value
+    let e = c.field_end-e in
+    let f = c.find in
+    word_read c.args.text.now e.result c.leading_word.result f.result
+    e.ensures c.leading_word.ensures f.ensures.value
     (f.ensures.upper_bound (lies c.args.text.now e.result e.ensures))

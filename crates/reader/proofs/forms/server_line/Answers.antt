@@ -14,10 +14,10 @@ returns-in-Some c =
     (OfServer (server_said (fields_from a.text.now a.from))) _
     c.in-Some.is
 
-pub returns : goal.returns
+pub returns-in-None : goal.returns-in-None
 unfolding server_form line_by
-returns c =
+returns-in-None c =
     let a = c.args in
     lined server_form a.text.now a.from c.read_fields-f.result c.read_fields-f.ensures _ _
-    (server_read a.text.now a.from c.read_fields-f.result c.kind_at-kind.result c.last_at-phase.result
-    c.kind_at-kind.ensures c.last_at-phase.ensures c.read_fields-f.ensures c.in_default.is)
+    (server_read a.text.now a.from c.read_fields-f.result c.kind_at.result c.last_at.result
+    c.kind_at.ensures c.last_at.ensures c.read_fields-f.ensures c.in-None.is)

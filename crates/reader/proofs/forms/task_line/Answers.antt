@@ -14,10 +14,10 @@ returns-in-Some c =
     (OfTask (task_said (fields_from a.text.now a.from))) _
     c.in-Some.is
 
-pub returns : goal.returns
+pub returns-in-None : goal.returns-in-None
 unfolding task_form line_by
-returns c =
+returns-in-None c =
     let a = c.args in
     lined task_form a.text.now a.from c.read_fields-f.result c.read_fields-f.ensures _ _
-    (task_read a.text.now a.from c.read_fields-f.result c.level_at-level.result c.level_at-level.ensures
-    c.read_fields-f.ensures c.in_default.is)
+    (task_read a.text.now a.from c.read_fields-f.result c.level_at.result c.level_at.ensures
+    c.read_fields-f.ensures c.in-None.is)

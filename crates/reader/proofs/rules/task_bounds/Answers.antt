@@ -1,6 +1,6 @@
 -- `reader::rules::task_bounds` meets its contract: its tests are those of `task_bounds`, in their
 -- order, the limits compared in microseconds. Assumes nothing.
-use mathlib.Core.Path.{refl, ◌∙◌}
+use mathlib.Core.Path.{◌∙◌}
 use Rattle.text.specs.Standing.{task_bounds}
 use Rattle.text.proofs.Bounds.{limit_exactly}
 use Rattle.reader.proofs.rules.task_bounds.Goals as goal
@@ -20,6 +20,3 @@ returns c =
       limit_exactly a.tick.0 a.k.limit.d1.0 h,
       limit_exactly a.tick.0 a.k.limit.d2.0 h,
     )
-
-pub slice_bounds-first_failed-end : goal.slice_bounds-first_failed-end
-slice_bounds-first_failed-end c = refl
