@@ -10,14 +10,13 @@ use Rattle.laws.specs.Quoted.{bytes, lined}
 use Rattle.decimal.specs.Number.{are_digits, number_form, is_number, worth_from}
 use Rattle.decimal.specs.Lines.{split, same}
 use Rattle.events.specs.declared.Event.TheVariants.{Release, Tick}
-use Rattle.lines.specs.Words.{release_letter, tick_letter}
 use Rattle.lines.specs.EventLine.{release_form, tick_form, event_said, event_line, closed_lines, event_lines}
 use Rattle.lines.specs.HeldLine.{longest, too_long, line_in, held_of}
 use Rattle.events.specs.declared.Event.{Event}
 
 unfoldable computed : Unit {0}
 unfolding
-    every are_digits number_form is_number worth_from split same release_letter tick_letter release_form tick_form
+    every are_digits number_form is_number worth_from split same release_form tick_form
     event_said event_line closed_lines event_lines longest too_long line_in held_of
 computed = tt
 

@@ -1,6 +1,7 @@
 -- An event file may be cut anywhere: its lines are the same. A line is closed at the first line
 -- feed, so the loop that looks for line feeds finds what the definition says byte by byte. Assumes
 -- nothing.
+use Rattle.std.proofs.lemmas.Bool.{or_parts}
 use Rattle.std.specs.Prelude.{if◌then◌else◌, if◌then◌else◌, Err, None, Ok, Option, Some}
 use mathlib.Core.Path.{◌≡◌, refl, sym, ap, ◌∙◌}
 use mathlib.Core.Bool.{Bool, true, false, ◌||◌}
@@ -14,7 +15,8 @@ use native.Mathlib.Numerals.{add-one}
 use lib.ListN.{length, get_or, take, drop, set, length-drop}
 use lib.Seq.{sets, sets-eq, length-sets, take_all, take-length, drop-drop, drop-append_seam}
 use borrow.Author.Tests.{le-leb, lt-leb, leb-false}
-use Rattle.laws.proofs.Choice.{clash, if_ind, or_false}
+use borrow.Rule.Slice.PartMut.{put_mid}
+use Rattle.laws.proofs.Choice.{clash, if_ind}
 use Rattle.decimal.specs.Lines.{line_feed, to_first, split, index_of, slice}
 use Rattle.decimal.proofs.Room.{sets_append}
 use Rattle.table.specs.declared.Refusal.TheVariants.{RoomShort}
@@ -226,6 +228,12 @@ going_start h input room =
       leaves = rw e;
     }
 
+-- a part of a room copied over, as it is stored number by number
+pub copied : (room part : List ℕ) (at k : ℕ) → k ≡ length part → at + k ≤ length room →
+    put_mid at k room part ≡ sets room at part
+copied room part at k e h =
+    sym (sets-eq part room at (omega arith) ∙ rw (← e, drop-drop k at room, append_assoc (take at room) part (drop (at + k) room)))
+
 -- the two numbers of a line, stored
 pub stored : (d : List ℕ) (at : ℕ) (v : List ℕ) (x : Option Event) → v ≡ line_values x →
     set (set d at (get_or v 0 0)) (at + 1) (get_or v 1 0) ≡ sets d at (line_values x)
@@ -313,17 +321,18 @@ module _ (h : Held) (input room : List ℕ) (k : Held) (left : List ℕ) (at man
       (omega (arith, length-drop at input, g.within))
 
   -- no room for one more line
-  pub going_full : (held : Held) → most ≤ many → held ≡ held_of (line_in k ++ take (at - at) (drop at input)) →
-      ◌≡◌ {A = CutInto} (record { cut = record { answer = Ok tt; held = held; eaten = at; many = many }; room = left }) (cut_first h input room)
+  pub going_full : (held : Held) → most ≤ many → held ≡ held_of (line_in k ++ []) →
+      ◌≡◌ {A = CutInto} (record { cut = record { answer = Ok tt; held = held; eaten = at; many = most }; room = left }) (cut_first h input room)
   going_full held m q =
       let u : most - many ≡ 0 = omega arith in
-      let v : at - at ≡ 0 = omega arith in
-      done (record { lines = []; left = line_in k; eaten = 0 })
+      let e : most ≡ many = omega (arith, g.few) in
+      ap (λ n. record { cut = record { answer = Ok tt; held = held; eaten = at; many = n }; room = left }) e
+      ∙ done (record { lines = []; left = line_in k; eaten = 0 })
       (rw u (cut_none (line_in k) (drop at input)))
       refl
       held
       at
-      (q ∙ rw (v, append-nil (line_in k)))
+      (q ∙ rw (append-nil (line_in k)))
       (omega arith)
 
 -- at the door: no byte, no room, and the rest
@@ -372,7 +381,7 @@ module _ (h : Held) (bytes room : List ℕ) where
   door P short long =
       if_ind P (leb 2 (length room) || is_nil bytes) (λ e. long)
       (λ e.
-      let f = or_false (leb 2 (length room)) (is_nil bytes) e in
+      let f = or_parts (leb 2 (length room)) (is_nil bytes) e in
       short (some_byte bytes f.1, leb-false 2 (length room) f.0))
 
   pub cut_12 : (taking_number (cut_of h bytes room).cut.answer ≡ 12) ↔ Short

@@ -12,7 +12,8 @@ use lib.Dec.{eqb}
 use lib.ListN.{length, get_or, drop}
 use borrow.Author.Tests.{le-leb, lt-leb, eqb-true}
 use Rattle.laws.specs.Choice.{every}
-use Rattle.laws.proofs.Choice.{clash, is_false, every_at}
+use Rattle.std.proofs.lemmas.Bool.{false_from_ne_true}
+use Rattle.laws.proofs.Choice.{clash, every_at}
 use Rattle.decimal.specs.Number.{is_number, worth, read_number}
 use Rattle.decimal.specs.Lines.{tab, split, join, same}
 use Rattle.decimal.proofs.Lines.{lacks, split_part, split_whole, join_split, same_eq, number_lacks}
@@ -66,8 +67,8 @@ unfolding event_line event_said release_form tick_form
 not_event l h =
     let fs = split tab l in
     rw (
-      is_false (every (release_form fs)) (λ e. h (formed l 82 (inl refl) (release_form fs) (refl, refl, refl) e)),
-      is_false (every (tick_form fs)) (λ e. h (formed l 84 (inr refl) (tick_form fs) (refl, refl, refl) e)),
+      false_from_ne_true (every (release_form fs)) (λ e. h (formed l 82 (inl refl) (release_form fs) (refl, refl, refl) e)),
+      false_from_ne_true (every (tick_form fs)) (λ e. h (formed l 84 (inr refl) (tick_form fs) (refl, refl, refl) e)),
     )
 
 pub said_short : (l : List ℕ) → length l < 2 → None ≡ event_line l

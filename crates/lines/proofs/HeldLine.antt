@@ -2,14 +2,13 @@
 -- held as the line with them is. Lines that are longer than every event line are held as one, and
 -- say the same. Assumes nothing.
 use mathlib.Core.Path.{◌≡◌, refl, sym, ap, ◌∙◌}
-use mathlib.Core.List.{List, [], ◌∷◌, ◌++◌, append_assoc, append-nil}
+use mathlib.Core.List.{List, [], ◌++◌, append-nil}
 use mathlib.Core.Logic.{◌⊎◌, inl, inr}
-use Prim.Native.Nat.{ℕ, zero, suc, ◌+◌, ◌-◌, ◌≤◌, ◌<◌}
+use Prim.Native.Nat.{ℕ, suc, ◌+◌, ◌-◌, ◌≤◌, ◌<◌}
 use native.Mathlib.Omega.{arith}
-use native.Mathlib.Numerals.{add-one}
-use lib.ListN.{length, get_or, take, set, replicate, length-append, length-replicate, length-set}
-use lib.Seq.{take-suc, take-suc-set, take-append_seam, take-append-le}
-use lib.Seq.{take_all, take-take, get_or-append-add, length-take-le}
+use lib.ListN.{length, take, replicate, length-append, length-replicate}
+use lib.Seq.{take-append_seam}
+use lib.Seq.{length-take-le}
 use borrow.Author.Tests.{le-leb, lt-leb}
 use Rattle.laws.proofs.Choice.{le_or_lt}
 use Rattle.lines.specs.declared.Held.{Held}
@@ -97,83 +96,16 @@ none_held = refl
 pub empty_held : (h : Held) → h.len ≡ 0 → line_in h ≡ []
 empty_held h e = line_in_lem h (omega arith) ∙ rw e
 
--- Bytes held after those of h, one after the other: the first i places are as they will be.
-padded_at : (xs : List ℕ) (n j : ℕ) → get_or (xs ++ replicate n 0) j 0 ≡ get_or xs j 0
-padded_at [] zero j = refl
-padded_at [] (suc n) zero = refl
-padded_at [] (suc n) (suc j) = padded_at [] n j
-padded_at (x ∷ xs) n zero = refl
-padded_at (x ∷ xs) n (suc j) = padded_at xs n j
-
-padded_length : (l : List ℕ) → length l ≤ longest → length (padded l) ≡ longest
-padded_length l h =
-    omega (arith, length-append l (replicate (longest - length l) 0), length-replicate {A = ℕ} (longest - length l) 0)
-
-abbrev whole : Held → List ℕ → List ℕ
-whole h part = padded (take h.len h.bytes ++ part)
-
-pub record Holding (h : Held) (part bytes : List ℕ) (i : ℕ) : Type 0 where
-  pub within : (h.len ≤ i) × (i ≤ longest)
-  pub same : length bytes ≡ longest
-  pub first : take i bytes ≡ take i (whole h part)
-
-module _ (h : Held) (part : List ℕ) (low : h.len ≤ longest) (long : length h.bytes ≡ longest)
-    (fits : length part ≤ longest - h.len) where
-  first_length : length (take h.len h.bytes) ≡ h.len
-  first_length = length-take-le h.len h.bytes (omega arith)
-
-  whole_length : length (take h.len h.bytes ++ part) ≡ h.len + length part
-  whole_length = omega (arith, length-append (take h.len h.bytes) part, first_length)
-
-  pub holding_start : Holding h part h.bytes h.len
-  holding_start =
-      record {
-        within = omega arith;
-        same = long;
-        first =
-            sym
-            (ap (take h.len) (append_assoc (take h.len h.bytes) part
-            (replicate (longest - length (take h.len h.bytes ++ part)) 0)) ∙
-            take-append-le h.len (take h.len h.bytes)
-            (part ++ replicate (longest - length (take h.len h.bytes ++ part)) 0)
-            (omega (arith, first_length)) ∙
-            take-take h.len h.len h.bytes (omega arith));
-      }
-
-  byte_at : (i : ℕ) → h.len ≤ i → get_or (whole h part) i 0 ≡ get_or part (i - h.len) 0
-  byte_at i l =
-      let first = take h.len h.bytes in
-      let e : length first + (i - h.len) ≡ i = omega (arith, first_length) in
-      padded_at (first ++ part) (longest - length (first ++ part)) i ∙
-      (rw e at (get_or-append-add first part (i - h.len) 0))
-
-  pub holding_next : (bytes : List ℕ) (i : ℕ) → Holding h part bytes i → i < longest →
-      Holding h part (set bytes i (get_or part (i - h.len) 0)) (i + 1)
-  holding_next bytes i g l =
-      let b = get_or part (i - h.len) 0 in
-      let k : i < length bytes = omega (arith, g.same) in
-      let m : i < length (whole h part) = omega (
-        arith,
-        padded_length (take h.len h.bytes ++ part)
-            (omega (arith, whole_length)),
-      ) in
-      record {
-        within = omega (arith, g.within);
-        same = length-set bytes i b ∙ g.same;
-        first =
-            rw (add-one i, take-suc-set bytes i b k, g.first, ← byte_at i g.within.0)
-            (sym (take-suc (whole h part) i 0 m));
-      }
-
-  pub holding_done : (bytes : List ℕ) (i : ℕ) → Holding h part bytes i → longest ≤ i →
-      ◌≡◌ {A = Held} (record { bytes = bytes; len = h.len + length part }) (held_of (line_in h ++ part))
-  holding_done bytes i g l =
-      let x = take h.len h.bytes ++ part in
-      let p = padded_length x (omega (arith, whole_length)) in
-      rw (line_in_lem h low, held_short x (omega (arith, whole_length)), whole_length)
-      (ap (λ y. record { bytes = y; len = h.len + length part })
-      (sym (take_all i bytes (omega (arith, g.same))) ∙ g.first ∙ take_all i (whole h part) (omega (arith, p)) ∙
-      ap (λ n. x ++ replicate (longest - n) 0) whole_length))
+-- The bytes of h, part behind them, and zeros behind these.
+pub held_with : (h : Held) (part zeros : List ℕ) → h.len ≤ longest → length h.bytes ≡ longest →
+    length part ≤ longest - h.len → zeros ≡ replicate (longest - (h.len + length part)) 0 →
+    ◌≡◌ {A = Held} (record { bytes = (take h.len h.bytes ++ part) ++ zeros; len = h.len + length part })
+    (held_of (line_in h ++ part))
+held_with h part zeros low long fits e =
+    let x = take h.len h.bytes ++ part in
+    let n : length x ≡ h.len + length part =
+    omega (arith, length-append (take h.len h.bytes) part, length-take-le h.len h.bytes (omega arith)) in
+    rw (e, line_in_lem h low, held_short x (omega arith), n)
 
 -- one that is too long already, and one that is with the bytes
 pub past_long : (h : Held) (part : List ℕ) → longest < h.len → too_long ≡ held_of (line_in h ++ part)

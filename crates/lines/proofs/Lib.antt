@@ -1,4 +1,5 @@
 pub mod Cases
+pub mod Chunks
 pub mod EventLine
 pub mod HeldLine
 pub mod Cutting

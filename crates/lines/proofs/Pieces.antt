@@ -2,16 +2,17 @@
 -- that the pieces of a file together are answered as the whole file is. Assumes nothing.
 use Rattle.std.proofs.Common.{Option, Ok}
 use mathlib.Core.Path.{◌≡◌, refl, sym, ap, subst, ◌∙◌}
-use mathlib.Core.Bool.{true}
+use mathlib.Core.Bool.{true, ◌||◌}
 use mathlib.Core.List.{List, [], ◌∷◌, ◌++◌, append-nil, append_assoc}
 use Prim.Native.Nat.{ℕ, zero, suc, ◌+◌, ◌*◌, ◌-◌, ◌≤◌, ◌<◌, min}
 use native.Mathlib.Omega.{arith}
-use lib.Dec.{eqb}
+use lib.Dec.{eqb, leb}
 use lib.ListN.{length, take, drop, length-append, length-drop}
 use lib.Seq.{length-take-le, take_all, take-add, take-append-le, take-append-add}
 use borrow.Author.Tests.{le-leb}
 use Rattle.laws.proofs.Choice.{if_ind}
 use Rattle.decimal.specs.Lines.{line_feed, closed}
+use Rattle.text.specs.Standing.{is_nil}
 use Rattle.events.specs.Boxes.{Box, after_lines_in}
 use Rattle.lines.specs.declared.Held.{Held}
 use Rattle.lines.specs.HeldLine.{line_in, held_of}
@@ -19,7 +20,8 @@ use Rattle.lines.specs.Cutting.{lines_in, left_in, last_line, taken_for, cutting
 use Rattle.lines.specs.Print.{longest_answer}
 use Rattle.lines.specs.EventLine.{event_lines}
 use Rattle.lines.specs.Night.{answer_lines_in, night_lines}
-use Rattle.lines.specs.Serving.{batch, lines_at_once, Service, served_from, serve_in}
+use Rattle.lines.specs.declared.Served.{Served}
+use Rattle.lines.specs.Serving.{batch, lines_at_once, Service, service_in, served_from, serve_in}
 use Rattle.lines.specs.Pieces.{piece_in, last_text, written_in, joined, Ready}
 use Rattle.lines.proofs.Cutting.{taken_within}
 use Rattle.lines.proofs.HeldLine.{held_again}
@@ -46,7 +48,7 @@ pub record Going {S : Type 0} (b : Box S) (s : S) (h : Held) (bytes : List ℕ) 
   pub few : put ≤ at * 140
   pub fits : length bytes * 140 ≤ lent
   pub long : length room ≡ lent
-  pub held : k ≡ held_of (line_in k)
+  pub ready : Ready b z k
   pub by : AnsweredBy b s h (take at bytes) (take put room) z k
 
 module _ {S : Type 0} (b : Box S) where
@@ -59,30 +61,41 @@ module _ {S : Type 0} (b : Box S) where
       let most : lines_at_once (length room) ≡ m = omega (arith, long) in
       rw (q, le-leb 140 (length room) (omega arith), most)
 
-  module _ (s : S) (h : Held) (bytes : List ℕ)
-      (keeps : (ls : List (Option Event)) → b.sound (after_lines_in b s ls) ≡ true) where
-    pub going_start : (room : List ℕ) → length bytes * 140 ≤ length room → h ≡ held_of (line_in h) →
-        Going b s h bytes (length room) 0 0 room s h
-    going_start room l e =
-        record { within = omega arith; few = omega arith; fits = l; long = refl; held = e; by = answered_none b s h }
+  -- what a buffer leaves is sound where what lines leave is
+  pub served_sound : (s : S) (h : Held) (bytes room : List ℕ) → b.sound s ≡ true →
+      ((ls : List (Option Event)) → b.sound (after_lines_in b s ls) ≡ true) → b.sound (serve_in b s h bytes room).run ≡ true
+  unfolding serve_in
+  served_sound s h bytes room q keeps =
+      let Sound = λ (d : Service S). b.sound d.run ≡ true in
+      if_ind Sound (b.sound s)
+      (λ e. if_ind Sound (leb longest_answer (length room) || is_nil bytes) (λ f. keeps _) (λ f. q)) (λ e. q)
 
-    pub going_ready : (lent at put : ℕ) (room : List ℕ) (z : S) (k : Held) → Going b s h bytes lent at put room z k →
-        Ready b z k
-    going_ready lent at put room z k g =
-        record { sound = rw g.by.run (keeps (lines_in (line_in h) (take at bytes))); held = g.held }
+  module _ (s : S) (h : Held) (bytes : List ℕ) where
+    pub going_start : (room : List ℕ) → length bytes * 140 ≤ length room → Ready b s h →
+        Going b s h bytes (length room) 0 0 room s h
+    going_start room l r =
+        record {
+          within = omega arith;
+          few = omega arith;
+          fits = l;
+          long = refl;
+          ready = r;
+          by = answered_none b s h;
+        }
 
     -- a batch more: the part of the room that was lent for it is left with its answers
     pub going_next : (lent at put : ℕ) (room : List ℕ) (z : S) (k : Held) → Going b s h bytes lent at put room z k →
         at < length bytes → (m : ℕ) → m ≡ min 1024 (length bytes - at) →
         (end : ℕ) → end ≡ put + m * 140 → (d : Service S) →
         length d.room ≡ length (take (end - put) (drop put room)) →
+        (b.sound z ≡ true → b.sound d.run ≡ true) →
         d ≡ serve_in b z k (take (length bytes - at) (drop at bytes)) (take (end - put) (drop put room)) →
         (0 < d.eaten) ×
         Going b s h bytes lent (at + d.eaten) (put + d.put)
         (take put room ++ (d.room ++ drop (end - put) (drop put room)))
         d.run d.held
     unfolding cutting
-    going_next lent at put room z k g more m most end ends d l e =
+    going_next lent at put room z k g more m most end ends d l kept e =
         let rest = take (length bytes - at) (drop at bytes) in
         let part = take (end - put) (drop put room) in
         let one : rest ≡ drop at bytes =
@@ -91,9 +104,8 @@ module _ {S : Type 0} (b : Box S) where
         let size : length part ≡ m * 140 =
         length-take-le (end - put) (drop put room) (omega (arith, length-drop put room)) ∙
         omega arith in
-        let q = (going_ready lent at put room z k g).sound in
         let first : d ≡ served_from b z (cutting m (line_in k) rest) part =
-        e ∙ serve_first z k rest part m q (omega arith) (omega arith) size in
+        e ∙ serve_first z k rest part m g.ready.sound (omega arith) (omega arith) size in
         let eats : d.eaten ≡ taken_for m rest = ap (λ (x : Service S). x.eaten) first in
         let there : length rest ≡ length bytes - at = ap length one ∙ length-drop at bytes in
         let line = closed (answer_lines_in b z (lines_in (line_in k) (take (taken_for m rest) rest))) in
@@ -129,9 +141,13 @@ module _ {S : Type 0} (b : Box S) where
                   length-drop (end - put) (drop put room),
                   length-drop put room,
                 );
-            held =
-                rw (ap (λ (x : Service S). x.held) first)
-                (sym (held_again (left_in (line_in k) (take (taken_for m rest) rest))));
+            ready =
+                record {
+                  sound = kept g.ready.sound;
+                  held =
+                      rw (ap (λ (x : Service S). x.held) first)
+                      (sym (held_again (left_in (line_in k) (take (taken_for m rest) rest))));
+                };
             by =
                 rw (take-add at d.eaten bytes, ← one, texts)
                 (subst
@@ -143,6 +159,19 @@ module _ {S : Type 0} (b : Box S) where
           },
         )
 
+    -- the same of what code hands back
+    pub going_on : {lent at put : ℕ} {room : List ℕ} {z : S} {k : Held} → Going b s h bytes lent at put room z k →
+        at < length bytes → {m : ℕ} → m ≡ min 1024 (length bytes - at) → (x : Served S) (left : List ℕ) →
+        length left ≡ length (take (put + m * 140 - put) (drop put room)) →
+        (b.sound z ≡ true → b.sound x.run ≡ true) →
+        service_in x left
+        ≡ serve_in b z k (take (length bytes - at) (drop at bytes)) (take (put + m * 140 - put) (drop put room)) →
+        (0 < x.eaten) ×
+        Going b s h bytes lent (at + x.eaten) (put + x.put)
+        (take put room ++ (left ++ drop (put + m * 140 - put) (drop put room)))
+        x.run x.held
+    going_on g more most x left l kept e = going_next _ _ _ _ _ _ g more _ most _ refl (service_in x left) l kept e
+
     -- all of the piece
     pub going_done : (lent at put : ℕ) (room : List ℕ) (z : S) (k : Held) → Going b s h bytes lent at put room z k →
         length bytes ≤ at →
@@ -150,7 +179,7 @@ module _ {S : Type 0} (b : Box S) where
     going_done lent at put room z k g l =
         let whole : take at bytes ≡ bytes = take_all at bytes l in
         let a = rw whole at g.by in
-        rw (a.run, g.held ∙ a.held, a.out)
+        rw (a.run, g.ready.held ∙ a.held, a.out)
 
   -- A file read in any pieces: what is written of all of them is what answers the file.
   last_written : (z : S) (l : List ℕ) → last_text l ≡ closed (answer_lines_in b z (last_line l))

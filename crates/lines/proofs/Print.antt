@@ -1,17 +1,18 @@
 -- Answer lines one after the other: the text of one line more, and what is handed back. Assumes
 -- nothing.
+use Rattle.std.proofs.lemmas.Bool.{or_parts, or_right}
 use Rattle.std.specs.Prelude.{if◌then◌else◌, Err, Ok}
 use mathlib.Core.Path.{◌≡◌, refl, sym, ap, ◌∙◌}
 use mathlib.Core.Bool.{Bool, true, false, ◌||◌}
 use mathlib.Core.List.{List, ◌++◌, append_assoc, append-nil}
-use mathlib.Core.Logic.{◌↔◌}
+use mathlib.Core.Logic.{◌↔◌, ◌⊎◌, inl, inr}
 use Prim.Native.Nat.{ℕ, zero, suc, ◌+◌, ◌*◌, ◌/◌, ◌≤◌, ◌<◌, min}
 use native.Mathlib.Omega.{arith}
 use lib.Dec.{leb, eqb}
 use lib.ListN.{length, get_or, drop}
 use lib.Seq.{get_or-drop, drop-drop, drop-append_seam}
-use borrow.Author.Tests.{le-leb, lt-leb, leb-false, ne_eqb, eqb-false}
-use Rattle.laws.proofs.Choice.{if_ind, or_false}
+use borrow.Author.Tests.{le-leb, lt-leb, leb-false, eq-eqb, ne_eqb, eqb-false}
+use Rattle.laws.proofs.Choice.{if_ind}
 use Rattle.table.specs.declared.Refusal.TheVariants.{RoomShort}
 use Rattle.events.specs.Values.{line_said, told_at}
 use Rattle.events.specs.Answers.{taking_number}
@@ -74,6 +75,13 @@ pub print_long : (values told room : List ℕ) → longest_answer ≤ length roo
 unfolding print_of
 print_long values told room l = rw (le-leb longest_answer (length room) l)
 
+pub print_some : (values told room : List ℕ) → (longest_answer ≤ length room) ⊎ (lines_lent values told ≡ 0) →
+    printed_first (min (lines_lent values told) (length room / longest_answer)) values told room ≡ print_of values told room
+unfolding print_of
+print_some values told room (inl l) = print_long values told room l
+print_some values told room (inr e) =
+    rw (eq-eqb (lines_lent values told) 0 e, or_right (leb longest_answer (length room)) true refl)
+
 -- 12, "lent room shorter than the text", exactly where a line is there to print and the longest has
 -- no room; then the room is as it was, and never is a byte changed beyond the text.
 module _ (values told room : List ℕ) where
@@ -93,7 +101,7 @@ module _ (values told room : List ℕ) where
   door P short long =
       if_ind P (leb longest_answer (length room) || eqb (lines_lent values told) 0) (λ e. long)
       (λ e.
-      let f = or_false (leb longest_answer (length room)) (eqb (lines_lent values told) 0) e in
+      let f = or_parts (leb longest_answer (length room)) (eqb (lines_lent values told) 0) e in
       let z = eqb-false (lines_lent values told) 0 f.1 in
       short (some_line (lines_lent values told) z, leb-false longest_answer (length room) f.0))
     where

@@ -1,9 +1,10 @@
 -- Lines that were cut from a buffer are told to a box and printed: what stands is what the buffer is
 -- answered. Lines and what is told to them, printed from their numbers, are printed as they are.
 -- Assumes nothing.
+use Rattle.std.proofs.lemmas.Bool.{cases_Bool}
 use Rattle.std.proofs.Common.{Err, None, Ok, Option, Result, Some}
 use mathlib.Core.Path.{◌≡◌, refl, sym, ap, ◌∙◌}
-use mathlib.Core.Bool.{true, false, ◌||◌}
+use mathlib.Core.Bool.{Bool, true, false, ◌||◌}
 use mathlib.Core.List.{List, [], ◌∷◌, ◌++◌, append_assoc}
 use mathlib.Core.Logic.{◌⊎◌, inl, inr}
 use Prim.Native.Nat.{ℕ, ◌+◌, ◌*◌, ◌/◌, ◌≤◌, ◌<◌, min}
@@ -12,7 +13,8 @@ use lib.Dec.{leb}
 use lib.ListN.{length, take, drop}
 use lib.Seq.{sets-eq, take_at, drop-append_seam}
 use borrow.Author.Tests.{le-leb, lt-leb}
-use Rattle.laws.proofs.Choice.{clash, le_or_lt, true_or_false}
+use Rattle.laws.specs.Choice.{unless◌say◌else◌}
+use Rattle.laws.proofs.Choice.{clash, le_or_lt}
 use Rattle.decimal.specs.Lines.{line_feed, closed}
 use Rattle.table.specs.declared.Refusal.TheVariants.{RoomShort, Unsound}
 use Rattle.text.specs.Standing.{is_nil}
@@ -30,6 +32,8 @@ use Rattle.lines.specs.AnswerLine.{answer_fields, printed, closed_line}
 use Rattle.lines.specs.Cutting.{Cutting, cutting, CutInto, cut_done, cut_first, cut_of}
 use Rattle.lines.specs.Print.{longest_answer, answer_text, first_line, PrintedInto, printed_first, print_of}
 use Rattle.lines.specs.Night.{answer_lines_in}
+use Rattle.events.specs.declared.Many.{Many}
+use Rattle.lines.specs.Many.{LentIn, taken_in, many_in}
 use Rattle.lines.specs.Serving.{batch, lines_at_once, Service, unserved, serve_in}
 use Rattle.lines.specs.Inner.{Fit, is_taken, answered_cut}
 use Rattle.lines.proofs.Cutting.{cut_few}
@@ -61,6 +65,13 @@ pub record Telling {S : Type 0} (b : Box S) (s : S) (ls : List (Option Event)) (
   pub after : b.sound s ≡ true → run ≡ after_lines_in b s ls
   pub front : b.sound s ≡ true → take (9 * length ls) told ≡ all_values (told_all_in b s ls)
 
+-- What 13 and then 12 refuse, said in another form.
+pub doors_same : {A B : Type 0} (f : A → B) (sound enough : Bool) (x y z : A) →
+    f (unless sound say x else unless enough say y else z) ≡ unless sound say f x else unless enough say f y else f z
+doors_same f true true x y z = refl
+doors_same f true false x y z = refl
+doors_same f false enough x y z = refl
+
 -- a text at the front of a room
 abbrev fronted : List ℕ → List ℕ → List ℕ
 fronted text room = text ++ drop (length text) room
@@ -89,18 +100,37 @@ module _ {S : Type 0} (b : Box S) where
       append_assoc (printed (answer_fields l (told_in b s l))) (line_feed ∷ [])
       (closed (answer_lines_in b (after_line_in b s l) ls)))
 
+  -- That is what a box tells to many lines (specs/Many.antt), where the room holds it.
+  module _ (s : S) (values told : List ℕ) (fits : 9 * length (lines_said values) ≤ length told) (many : Many S)
+      (now : List ℕ)
+      (m : record { many = many; room = now } ≡ many_in b s values told) where
+    all_told : b.sound s ≡ true → record { many = many; room = now } ≡ taken_in b s (lines_said values) told
+    unfolding many_in
+    all_told q = m ∙ rw (q, le-leb (9 * length (lines_said values)) (length told) fits)
+
+    pub many_told : Telling b s (lines_said values) many.answer many.run now
+    unfolding many_in
+    many_told =
+        let ls = lines_said values in
+        record {
+          refused = λ q. ap (λ (x : LentIn S). x.many.answer) m ∙ rw q;
+          taken = λ q. ap (λ (x : LentIn S). x.many.answer) (all_told q);
+          after = λ q. ap (λ (x : LentIn S). x.many.run) (all_told q);
+          front = λ q. ap (λ (x : LentIn S). take (9 * length ls) x.room) (all_told q) ∙ told_front s ls told;
+        }
+
   -- A box that answered is sound.
   module _ (s : S) (ls : List (Option Event)) (answer : Result (Unit {0}) Refusal) (run : S) (told : List ℕ)
       (t : Telling b s ls answer run told) where
     pub told_sound : answer ≡ Ok tt → b.sound s ≡ true
-    told_sound e = go (true_or_false (b.sound s))
+    told_sound e = go (cases_Bool (b.sound s))
       where
         go : (b.sound s ≡ true) ⊎ (b.sound s ≡ false) → b.sound s ≡ true
         go (inl q) = q
         go (inr q) = absurd (clash (is_taken answer) (ap is_taken e) (ap is_taken (t.refused q)))
 
     pub told_unsound : is_taken answer ≡ false → b.sound s ≡ false
-    told_unsound e = go (true_or_false (b.sound s))
+    told_unsound e = go (cases_Bool (b.sound s))
       where
         go : (b.sound s ≡ true) ⊎ (b.sound s ≡ false) → b.sound s ≡ false
         go (inl q) = absurd (clash (is_taken answer) (ap is_taken (t.taken q)) e)
@@ -202,7 +232,7 @@ module _ (h : Held) (bytes lent : List ℕ) (room : ℕ) (long : length lent ≡
 
   -- and there are as many
   pub cut_many : c.many ≤ lines_at_once room
-  cut_many = go (true_or_false (leb longest_answer room || is_nil bytes))
+  cut_many = go (cases_Bool (leb longest_answer room || is_nil bytes))
     where
       go : ((leb longest_answer room || is_nil bytes) ≡ true) ⊎ ((leb longest_answer room || is_nil bytes) ≡ false) →
           c.many ≤ lines_at_once room
@@ -221,7 +251,7 @@ module _ (h : Held) (bytes lent : List ℕ) (room : ℕ) (long : length lent ≡
 
   pub cut_fits : Fit (take (2 * c.many) (left ++ more)) room
   unfolding longest_answer all_line_values lines_said
-  cut_fits = go (true_or_false (leb longest_answer room || is_nil bytes))
+  cut_fits = go (cases_Bool (leb longest_answer room || is_nil bytes))
     where
       go : ((leb longest_answer room || is_nil bytes) ≡ true) ⊎ ((leb longest_answer room || is_nil bytes) ≡ false) →
           Fit (take (2 * c.many) (left ++ more)) room
@@ -239,7 +269,7 @@ module _ (h : Held) (bytes lent : List ℕ) (room : ℕ) (long : length lent ≡
   pub cut_served : {S : Type 0} (b : Box S) (s : S) (answers : List ℕ) → length answers ≡ room →
       answered_cut b s h c said answers ≡ serve_in b s h bytes answers
   unfolding answered_cut serve_in
-  cut_served b s answers a = go (true_or_false (leb longest_answer room || is_nil bytes))
+  cut_served b s answers a = go (cases_Bool (leb longest_answer room || is_nil bytes))
     where
       go : ((leb longest_answer room || is_nil bytes) ≡ true) ⊎ ((leb longest_answer room || is_nil bytes) ≡ false) →
           answered_cut b s h c said answers ≡ serve_in b s h bytes answers

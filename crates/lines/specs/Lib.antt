@@ -5,6 +5,7 @@ pub mod Cutting
 pub mod AnswerLine
 pub mod Print
 pub mod Night
+pub mod Many
 pub mod Serving
 pub mod Inner
 pub mod Pieces

@@ -10,6 +10,7 @@ use Rattle.table.specs.declared.Refusal.TheVariants.{RoomShort, Unsound}
 use Rattle.text.specs.Standing.{is_nil}
 use Rattle.events.specs.Boxes.{Box, after_lines_in}
 use Rattle.lines.specs.declared.Held.{Held}
+use Rattle.lines.specs.declared.Served.{Served}
 use Rattle.lines.specs.HeldLine.{line_in, held_of}
 use Rattle.lines.specs.Cutting.{Cutting, cutting}
 use Rattle.lines.specs.Print.{longest_answer}
@@ -34,6 +35,11 @@ pub record Service (S : Type 0) : Type 0 where
   pub eaten : ℕ
   pub put : ℕ
   pub room : List ℕ
+
+-- what code hands back, with the lent room after it
+abbrev pub service_in : {S : Type 0} → Served S → List ℕ → Service S
+service_in d room =
+    record { answer = d.answer; run = d.run; held = d.held; eaten = d.eaten; put = d.put; room = room }
 
 -- nothing of a buffer is taken: what was handed in comes back, "room as it was"
 abbrev pub unserved : {S : Type 0} → Refusal → S → Held → List ℕ → Service S

@@ -14,6 +14,7 @@ pub const LONGEST_EVENT: usize = 13;
 
 // The line of an event file that is not closed yet: its first len bytes, or too long for an event
 // line where len is above LONGEST_EVENT.
+// Kept: bytes and a length, 14 for too long: a board has no heap; held_of and too_long say so.
 #[derive(Clone, Copy)]
 pub struct Held {
     pub bytes: [u8; LONGEST_EVENT],
@@ -22,6 +23,7 @@ pub struct Held {
 
 // What is handed back for a piece: the line that is not closed yet after it, how many of its bytes
 // were taken, and how many lines they closed. (specs/Cutting.antt.)
+// Kept: Cut, Printed, Served have counts beside the answer: cut_of, print_of, serve_in say each.
 #[derive(Clone, Copy)]
 pub struct Cut {
     pub answer: Result<(), Refusal>,
@@ -60,16 +62,13 @@ pub const BATCH: usize = 1024;
 pub fn smaller_of(a: usize, b: usize) -> usize
     ensures { result ≡ min a b }
 {
-    if a < b {
-        return a;
-    }
-    b
+    a.min(b)
 }
 
 // How many lines a room surely holds the answers of, at most a batch.
+#[tactic(auto, unfolding(crate::specs::Print::longest_answer, crate::specs::Serving::batch))]
 pub fn lines_at_once(room: usize) -> usize
     ensures { result ≡ lines_at_once room }
 {
-    let fit = room / LONGEST_ANSWER;
-    smaller_of(fit, BATCH)
+    (room / LONGEST_ANSWER).min(BATCH)
 }

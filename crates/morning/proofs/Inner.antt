@@ -9,14 +9,12 @@ use mathlib.Core.List.{List, [], ◌∷◌, ◌++◌}
 use Prim.Native.Nat.{ℕ, suc, ◌+◌, ◌≤◌}
 use native.Mathlib.Omega.{arith}
 use lib.Dec.{ltb}
-use lib.ListN.{length, get_or, replicate, length-replicate, get_or-replicate}
+use lib.ListN.{length}
 use borrow.Author.Tests.{lt-ltb}
 use Rattle.laws.specs.Choice.{larger}
 use Rattle.laws.proofs.Choice.{if_ind, larger_left, larger_right}
 use Rattle.laws.proofs.Rows.{any_at, none_build}
 use Rattle.laws.proofs.Highest.{highest_at, highest_none}
-use Rattle.table.specs.declared.Mode.{Mode}
-use Rattle.table.specs.declared.Mode.TheVariants.{N, D1, D2}
 use Rattle.table.specs.declared.Table.{Table}
 use Rattle.table.specs.Rows.{task_priority_at}
 use Rattle.table.proofs.Rules.{TableRules, table_rules}
@@ -32,7 +30,6 @@ use Rattle.events.specs.declared.Answered.{Answered}
 use Rattle.run.specs.State.{waits, waits_for}
 use Rattle.run.specs.Sound.{sound}
 use Rattle.events.specs.Answers.{charged}
-use Rattle.table.specs.Rows.{mode_value}
 use Rattle.run.specs.Tick.{settle, highest_task, choose, tick_taken}
 use Rattle.run.specs.Events.{event_of}
 use Rattle.run.specs.Found.{TakenTick, tick_taken_so, taken_by, taken_ticks, priority_found, top_priority}
@@ -45,7 +42,7 @@ use Rattle.events.proofs.Count.{LeftBelow}
 use Rattle.run.proofs.Count.{left_below}
 use Rattle.run.proofs.Kept.{event_keeps}
 use Rattle.morning.specs.Numbers.{row_from, longest_row}
-use Rattle.morning.specs.Inner.{over_ticks, row_to, ServerBelow, TaskBelow, TickFits, AllFit, Counted}
+use Rattle.morning.specs.Inner.{over_ticks, row_to, ServerBelow, TaskBelow, TickFits, AllFit}
 
 -- counts
 pub over_append : (f : TakenTick → ℕ) (ms ns : List TakenTick) →
@@ -224,33 +221,3 @@ all_fit r (e ∷ es) h q =
         (λ why x. x)
         (λ y x. (tick_fits r mark h q, x))
         rest
-
--- Arrays of zeros hold the numbers of no tick.
-pub counted_none : (t : Table) → t.nservers ≤ 32 → t.ntasks ≤ 64 →
-    Counted t [] (replicate 128 0) (replicate 192 0) (replicate 3 0)
-unfolding over_ticks row_to longest_row
-counted_none t few many =
-    record {
-      servers =
-          record {
-            long = length-replicate {A = ℕ} 128 0;
-            charged = λ i l. get_or-replicate {A = ℕ} 128 i 0 0 (omega arith);
-            empty = λ i l. get_or-replicate {A = ℕ} 128 (32 + i) 0 0 (omega arith);
-            row = λ i l. get_or-replicate {A = ℕ} 128 (64 + i) 0 0 (omega arith);
-            longest = λ i l. get_or-replicate {A = ℕ} 128 (96 + i) 0 0 (omega arith);
-          };
-      tasks =
-          record {
-            long = length-replicate {A = ℕ} 192 0;
-            finished = λ k l. get_or-replicate {A = ℕ} 192 k 0 0 (omega arith);
-            cut = λ k l. get_or-replicate {A = ℕ} 192 (64 + k) 0 0 (omega arith);
-            discarded = λ k l. get_or-replicate {A = ℕ} 192 (128 + k) 0 0 (omega arith);
-            small = λ k l. omega (arith, get_or-replicate {A = ℕ} 192 (128 + k) 0 0 (omega arith));
-          };
-      modes = record { long = refl; ticks = none };
-    }
-  where
-    none : (m : Mode) → get_or {A = ℕ} (replicate 3 0) (mode_value m) 0 ≡ 0
-    none N = refl
-    none D1 = refl
-    none D2 = refl

@@ -3,15 +3,49 @@
 use Rattle.std.proofs.Common.{Ok}
 use mathlib.Core.Path.{◌≡◌, refl, sym, ap, ◌∙◌}
 use mathlib.Core.List.{List}
-use Prim.Native.Nat.{ℕ, suc, ◌+◌, ◌*◌, ◌≤◌, ◌<◌}
+use Prim.Native.Nat.{ℕ, zero, suc, ◌+◌, ◌*◌, ◌/◌, ◌≤◌, ◌<◌}
 use native.Mathlib.Omega.{arith}
-use lib.ListN.{length}
-use lib.Seq.{length-sets}
-use Rattle.lines.specs.AnswerLine.{closed_line}
-use Rattle.lines.specs.Print.{answer_text, PrintedInto, printed_first}
+use native.Mathlib.Nat.{add-zero}
+use lib.ListN.{length, get_or, take, drop}
+use lib.Seq.{length-sets, get_or-drop}
+use Rattle.std.proofs.lemmas.List.{get_or-take}
+use Rattle.events.specs.Values.{told_at}
+use Rattle.events.proofs.Values.{told_drop}
+use Rattle.lines.specs.AnswerLine.{answer_fields, closed_line}
+use Rattle.lines.specs.Print.{first_line, answer_text, PrintedInto, printed_first}
 use Rattle.lines.proofs.Print.{fields_at, text_next}
 use Rattle.printer.specs.Inner.{RoomAt, stored, line_stored, line_bytes, Stores}
 use Rattle.printer.proofs.Inner.{stored_more, line_stored_lem, front}
+
+-- the numbers of part i say line i
+told_take : (l : List ℕ) → told_at (take 9 l) 0 ≡ told_at l 0
+told_take l =
+    rw (
+      get_or-take 9 l 0 0 (omega arith),
+      get_or-take 9 l 1 0 (omega arith),
+      get_or-take 9 l 2 0 (omega arith),
+      get_or-take 9 l 3 0 (omega arith),
+      get_or-take 9 l 4 0 (omega arith),
+      get_or-take 9 l 5 0 (omega arith),
+      get_or-take 9 l 6 0 (omega arith),
+      get_or-take 9 l 7 0 (omega arith),
+      get_or-take 9 l 8 0 (omega arith),
+    )
+
+pub part_fields : (values told line nine : List ℕ) (i : ℕ) → line ≡ take 2 (drop (2 * i) values) →
+    nine ≡ take 9 (drop (9 * i) told) → answer_fields (first_line line) (told_at nine 0) ≡ fields_at values told i
+part_fields values told line nine i e f =
+    rw (
+      e,
+      f,
+      told_take (drop (9 * i) told),
+      ← told_drop told (9 * i),
+      get_or-take 2 (drop (2 * i) values) 0 0 (omega arith),
+      get_or-take 2 (drop (2 * i) values) 1 0 (omega arith),
+      get_or-drop (2 * i) values 0 0,
+      get_or-drop (2 * i) values 1 0,
+      add-zero (2 * i),
+    )
 
 -- before line i, the first i are stored
 pub record Printing (n : ℕ) (values told room left : List ℕ) (at i : ℕ) : Type 0 where

@@ -1,14 +1,7 @@
 -- What only the contracts of inner functions cite: an answer line stored field by field.
-use Rattle.std.specs.Prelude.{◌≡◌, List, [], ◌∷◌, ℕ, ◌+◌, ◌≤◌, length, get_or, Option}
+use Rattle.std.specs.Prelude.{◌≡◌, List, [], ◌∷◌, ℕ, ◌+◌, ◌≤◌, length}
 use Rattle.std.proofs.lemmas.List.Edits.{sets}
 use Rattle.decimal.specs.Lines.{tab, line_feed}
-use Rattle.events.specs.declared.Told.{Told}
-use Rattle.events.specs.declared.TickAnswer.{TickAnswer}
-use Rattle.table.specs.Rows.{mode_said}
-use Rattle.events.specs.Values.{turn_said, left_said, line_said, told_said}
-use Rattle.printer.specs.declared.LineValues.{LineValues}
-use Rattle.printer.specs.declared.ToldValues.{ToldValues}
-use Rattle.events.specs.declared.Event.{Event}
 
 -- a lent room, and the place where its next byte goes
 pub record RoomAt : Type 0 where
@@ -60,37 +53,3 @@ line_bytes = 1 + number_field + outcome_bytes
 -- `table` and `no`, up to three numbers, and the line feed
 abbrev pub refused_bytes : ℕ
 refused_bytes = 8 + number_field + number_field + number_field + 1
-
-abbrev pub line_values_at : List ℕ → ℕ → LineValues
-line_values_at xs at = record { kind = get_or xs at 0; value = get_or xs (at + 1) 0 }
-
-abbrev pub told_values_at : List ℕ → ℕ → ToldValues
-told_values_at xs at =
-    record {
-      kind = get_or xs at 0;
-      number = get_or xs (at + 1) 0;
-      mode = get_or xs (at + 2) 0;
-      turn = get_or xs (at + 3) 0;
-      server = get_or xs (at + 4) 0;
-      task = get_or xs (at + 5) 0;
-      left = get_or xs (at + 6) 0;
-      leaver = get_or xs (at + 7) 0;
-      discarded = get_or xs (at + 8) 0;
-    }
-
-abbrev pub tick_said : ToldValues → TickAnswer
-tick_said v =
-    record {
-      tick = record { 0 = v.number };
-      mode = mode_said v.mode;
-      turn = turn_said v.turn v.server v.task;
-      left = left_said v.left v.leaver;
-      discarded = v.discarded;
-    }
-
-abbrev pub outcome_said : ToldValues → Told
-outcome_said v =
-    told_said v.kind v.number v.mode v.turn v.server v.task v.left v.leaver v.discarded
-
-abbrev pub line_of : LineValues → Option Event
-line_of l = line_said l.kind l.value

@@ -5,17 +5,17 @@
 
 mod said;
 
-ghost use Rattle.std.specs.Prelude.{◌≡◌, [], ◌∷◌, ◌+◌, ◌*◌, ◌≤◌, min, length};
+ghost use Rattle.std.specs.Prelude.{◌≡◌, [], ◌∷◌, ◌+◌, ◌≤◌, length};
 ghost use Rattle.decimal.specs.Number.{digits};
 ghost use Rattle.decimal.specs.Room.{Put};
 ghost use Rattle.lines.specs.Words.{dash, mode_word};
-ghost use Rattle.lines.specs.AnswerLine.{turn_fields, left_fields, tick_fields, outcome, answer_fields};
+ghost use Rattle.events.specs.Values.{told_at};
+ghost use Rattle.lines.specs.AnswerLine.{turn_fields, left_fields, outcome, answer_fields};
 ghost use Rattle.lines.specs.AnswerLine.{another_fields, refused_fields, closed_line};
-ghost use Rattle.lines.specs.Print.{print_of, printed_first};
+ghost use Rattle.lines.specs.Print.{first_line, print_of};
 ghost use Rattle.printer.specs.Inner.{stored, fields_stored, rest_stored, line_stored, Stores};
 ghost use Rattle.printer.specs.Inner.{number_field, turn_bytes, left_bytes, outcome_bytes};
-ghost use Rattle.printer.specs.Inner.{line_bytes, refused_bytes, line_values_at, told_values_at};
-ghost use Rattle.printer.specs.Inner.{tick_said, outcome_said, line_of};
+ghost use Rattle.printer.specs.Inner.{line_bytes, refused_bytes};
 
 use decimal::put::{MOST_DIGITS, put_all, spell};
 use events::{Event, LINE_VALUES, Left, TOLD_VALUES, Turn};
@@ -23,64 +23,15 @@ use lines::{LONGEST_ANSWER, Printed};
 use table::{Mode, Refusal, number_of};
 use text::ReadError;
 
-// The two numbers that say an event line.
-#[derive(Clone, Copy)]
-pub(crate) struct LineValues {
-    pub kind: u64,
-    pub value: u64,
-}
-
-// The nine numbers that tell what became of it: for a tick its number and mode; what, server, task;
-// how the earlier job left, its task; discarded. (Rattle.run.specs.Values.)
-#[derive(Clone, Copy)]
-pub(crate) struct ToldValues {
-    pub kind: u64,
-    pub number: u64,
-    pub mode: u64,
-    pub turn: u64,
-    pub server: u64,
-    pub task: u64,
-    pub left: u64,
-    pub leaver: u64,
-    pub discarded: u64,
-}
-
-fn line_at(lines: &[u64], at: usize) -> LineValues
-    requires { at + 2 ≤ length lines.now }
-    ensures { result ≡ line_values_at lines.now at }
-{
-    LineValues {
-        kind: lines[at],
-        value: lines[at + 1],
-    }
-}
-
-fn told_at(told: &[u64], at: usize) -> ToldValues
-    requires { at + 9 ≤ length told.now }
-    ensures { result ≡ told_values_at told.now at }
-{
-    ToldValues {
-        kind: told[at],
-        number: told[at + 1],
-        mode: told[at + 2],
-        turn: told[at + 3],
-        server: told[at + 4],
-        task: told[at + 5],
-        left: told[at + 6],
-        leaver: told[at + 7],
-        discarded: told[at + 8],
-    }
-}
-
+// Kept: store_ functions take (room, at), as Put does, and no write!: no heap, and room is there.
 fn store_all(text: &[u8], room: &mut [u8], at: usize) -> usize
     requires { at + length text.now ≤ length room.old }
     ensures { Stores (stored text.now) (length text.now)
         room.old at room.new result }
 {
-    for i in 0..text.len() {
-        room[at + i] = text[i];
-    }
-    at + text.len()
+    let end = at + text.len();
+    room[at..end].copy_from_slice(text);
+    end
 }
 
 fn store_byte(b: u8, room: &mut [u8], at: usize) -> usize
@@ -187,93 +138,69 @@ fn store_left(left: Left, room: &mut [u8], at: usize) -> usize
     }
 }
 
-fn store_tick(v: ToldValues, room: &mut [u8], at: usize) -> usize
+// What became of a line, told by nine numbers. (Rattle.events.specs.Values.)
+// Kept: nine numbers and no Told: they are lent so, and any nine have a line (told_said).
+fn store_outcome(told: &[u64; TOLD_VALUES], room: &mut [u8], at: usize) -> usize
     requires { at + outcome_bytes ≤ length room.old }
-    ensures { Stores (rest_stored (tick_fields (tick_said v))) outcome_bytes
+    ensures { Stores (rest_stored (outcome (told_at told.now 0))) outcome_bytes
         room.old at room.new result }
 {
-    let mode = table::mode_said(v.mode);
-    let turn = said::turn_said(v.turn, v.server, v.task);
-    let left = said::left_said(v.left, v.leaver);
-    let a = store_field(v.number, room, at);
-    let b = store_mode(mode, room, a);
-    let c = store_turn(turn, room, b);
-    let d = store_left(left, room, c);
-    store_last(v.discarded, room, d)
-}
-
-// What became of a line, told by nine numbers.
-fn store_outcome(v: ToldValues, room: &mut [u8], at: usize) -> usize
-    requires { at + outcome_bytes ≤ length room.old }
-    ensures { Stores (rest_stored (outcome (outcome_said v))) outcome_bytes
-        room.old at room.new result }
-{
-    let kind = v.kind;
-    if kind == 0 {
-        let a = store_all(b"\tno", room, at);
-        return store_last(v.number, room, a);
+    let [
+        kind,
+        number,
+        mode,
+        what,
+        server,
+        task,
+        how,
+        leaver,
+        discarded,
+    ] = *told;
+    match kind {
+        0 => {
+            let a = store_all(b"\tno", room, at);
+            store_last(number, room, a)
+        }
+        1 => {
+            let a = store_all(b"\tok", room, at);
+            store_byte(b'\n', room, a)
+        }
+        _ => {
+            let a = store_field(number, room, at);
+            let b = store_mode(table::mode_said(mode), room, a);
+            let c = store_turn(said::turn_said(what, server, task), room, b);
+            let d = store_left(said::left_said(how, leaver), room, c);
+            store_last(discarded, room, d)
+        }
     }
-    if kind == 1 {
-        let a = store_all(b"\tok", room, at);
-        return store_byte(b'\n', room, a);
-    }
-    store_tick(v, room, at)
 }
 
 // The line that answers an event line, which two numbers say.
-fn store_line(line: LineValues, v: ToldValues, room: &mut [u8], at: usize) -> usize
+fn store_line(
+    line: &[u64; LINE_VALUES],
+    told: &[u64; TOLD_VALUES],
+    room: &mut [u8],
+    at: usize,
+) -> usize
     requires { at + line_bytes ≤ length room.old }
-    ensures { Stores (line_stored (answer_fields (line_of line) (outcome_said v))) line_bytes
-        room.old at room.new result }
+    ensures { Stores (line_stored (answer_fields (first_line line.now) (told_at told.now 0)))
+        line_bytes room.old at room.new result }
 {
-    let l = said::line_said(line.kind, line.value);
-    match l {
+    match events::line_said(line[0], line[1]) {
         None => {
             let a = store_byte(b'?', room, at);
-            store_outcome(v, room, a)
+            store_outcome(told, room, a)
         }
-        Some(e) => match e {
-            Event::Tick(_) => {
-                let a = store_byte(b'T', room, at);
-                store_outcome(v, room, a)
-            }
-            Event::Release(k) => {
-                let a = store_byte(b'R', room, at);
-                let b = store_field(k as u64, room, a);
-                store_outcome(v, room, b)
-            }
-        },
+        Some(Event::Tick(_)) => {
+            let a = store_byte(b'T', room, at);
+            store_outcome(told, room, a)
+        }
+        Some(Event::Release(k)) => {
+            let a = store_byte(b'R', room, at);
+            let b = store_field(k as u64, room, a);
+            store_outcome(told, room, b)
+        }
     }
-}
-
-// The first n lines.
-fn print_first(n: usize, lines: &[u64], told: &[u64], room: &mut [u8]) -> Printed
-    requires { (2 * n ≤ length lines.now) × (9 * n ≤ length told.now)
-        × (line_bytes * n ≤ length room.old) }
-    ensures { record { printed = result; room = room.new }
-        ≡ printed_first n lines.now told.now room.old }
-{
-    let mut at = 0;
-    for i in 0..n {
-        let line = line_at(lines, LINE_VALUES * i);
-        let v = told_at(told, TOLD_VALUES * i);
-        at = store_line(line, v, room, at);
-    }
-    Printed {
-        answer: Ok(()),
-        many: n,
-        put: at,
-    }
-}
-
-// The smaller of two numbers.
-fn smaller_of(a: usize, b: usize) -> usize
-    ensures { result ≡ min a b }
-{
-    if a < b {
-        return a;
-    }
-    b
 }
 
 // The answer lines of as many lines as both arrays hold, two and nine numbers each, at the front of
@@ -283,23 +210,26 @@ pub fn print_lines(lines: &[u64], told: &[u64], room: &mut [u8]) -> Printed
     ensures { record { printed = result; room = room.new }
         ≡ print_of lines.now told.now room.old }
 {
-    let n = smaller_of(lines.len() / LINE_VALUES, told.len() / TOLD_VALUES);
-    if n == 0 {
-        return Printed {
-            answer: Ok(()),
-            many: 0,
-            put: 0,
-        };
-    }
-    if room.len() < LONGEST_ANSWER {
+    let (lines, _) = lines.as_chunks::<LINE_VALUES>();
+    let (told, _) = told.as_chunks::<TOLD_VALUES>();
+    let lent = lines.len().min(told.len());
+    if room.len() < LONGEST_ANSWER && lent != 0 {
         return Printed {
             answer: Err(Refusal::RoomShort),
             many: 0,
             put: 0,
         };
     }
-    let k = smaller_of(n, room.len() / LONGEST_ANSWER);
-    print_first(k, lines, told, room)
+    let many = lent.min(room.len() / LONGEST_ANSWER);
+    let mut at = 0;
+    for (line, told) in lines[..many].iter().zip(&told[..many]) {
+        at = store_line(line, told, room, at);
+    }
+    Printed {
+        answer: Ok(()),
+        many,
+        put: at,
+    }
 }
 
 // The line that answers another line.
@@ -310,6 +240,7 @@ pub fn put_another(room: &mut [u8], at: usize) -> usize
 }
 
 // (A taken table has no such line, and would be told by number 0.)
+// Kept: put_refused is public and takes Ok too: a ReadError alone would ask more of callers.
 fn store_refused(a: Result<(), ReadError>, room: &mut [u8], at: usize) -> usize
     requires { at + refused_bytes ≤ length room.old }
     ensures { Stores (line_stored (refused_fields a)) refused_bytes

@@ -6,10 +6,14 @@ use mathlib.Core.Bool.{true}
 use mathlib.Core.List.{List, [], ◌∷◌, ◌++◌, append-nil, append_assoc}
 use Prim.Native.Nat.{ℕ, suc, ◌+◌, ◌*◌, ◌-◌, ◌/◌, ◌≤◌, ◌<◌}
 use native.Mathlib.Omega.{arith}
-use lib.ListN.{length, take, drop, length-append, length-drop}
+use lib.ListN.{length, get_or, replicate, take, drop, length-append, length-drop, get_or-replicate}
 use lib.Seq.{sets-eq, take_all, take_at, take-add}
 use Rattle.decimal.specs.Lines.{closed}
+use Rattle.table.specs.declared.Mode.{Mode}
+use Rattle.table.specs.declared.Mode.TheVariants.{N, D1, D2}
 use Rattle.table.specs.declared.Table.{Table}
+use Rattle.table.specs.Rows.{mode_value}
+use Rattle.events.specs.Answers.{charged, finished_by, cut_by}
 use Rattle.table.specs.Rules.{table_keeps}
 use Rattle.table.specs.Inner.{Sized}
 use Rattle.table.proofs.Rules.{table_rules}
@@ -21,7 +25,7 @@ use Rattle.run.specs.declared.Finding.{Finding}
 use Rattle.events.specs.declared.Event.{Event}
 use Rattle.run.specs.Sound.{sound}
 use Rattle.run.specs.Release.{fresh_run}
-use Rattle.run.specs.Events.{event_of, the_box}
+use Rattle.run.specs.Events.{after, event_of, the_box}
 use Rattle.events.specs.Values.{lines_said, all_line_values}
 use Rattle.run.specs.Found.{TakenTick, taken_ticks, all_found, all_told}
 use Rattle.run.specs.Many.{after_lines, ticks_among, LentBoth, taken_finding, find_of}
@@ -39,16 +43,18 @@ use Rattle.lines.specs.EventLine.{event_lines}
 use Rattle.lines.specs.AnswerLine.{printed, refused_fields}
 use Rattle.lines.proofs.HeldLine.{held_again}
 use Rattle.lines.proofs.Cutting.{lines_append, left_append, alike_lines, alike_left, cut_few, cut_long, file_lines, taken_within}
-use Rattle.morning.specs.Numbers.{events_in}
+use Rattle.morning.specs.Numbers.{events_in, empty_turn, in_this_mode, longest_row, server_numbers, task_numbers, mode_number}
 use Rattle.morning.specs.Page.{report_lines, morning_lines, report}
-use Rattle.morning.specs.Inner.{AllFit}
+use Rattle.morning.specs.Inner.{AllFit, over_ticks, row_to}
 use Rattle.morning.proofs.Numbers.{taken_append, events_append, after_lines_lem, ticks_among_lem, ticks_most}
-use Rattle.morning.proofs.Inner.{all_fit, counted_none}
-use Rattle.morning.proofs.Page.{counted_page}
-use Rattle.report.specs.Inner.Count.{SomeTicks, CountedAfter}
-use Rattle.report.specs.Inner.Count.{TicksHanded}
-use Rattle.report.specs.Inner.Page.{page_in}
-use Rattle.report.specs.Pieces.{Stand, start_with, After, AfterSome, Reads, ReadsSome, ReadsAll, joined, PageOf}
+use Rattle.morning.proofs.Numbers.{over_answers, over_lefts, discarded_taken}
+use Rattle.morning.proofs.Inner.{all_fit}
+use Rattle.morning.proofs.Page.{page_same}
+use Rattle.report.specs.declared.count.Counts.{Counts}
+use Rattle.report.specs.Inner.Count.{Counted, no_counts, TicksHanded, SomeTicks, CountedAfter}
+use Rattle.report.specs.Inner.Page.{server_in, task_in, mode_in, page_in}
+use Rattle.report.specs.declared.Morning.{Morning}
+use Rattle.report.specs.Pieces.{Stand, start_with, After, AfterSome, Reads, ReadsSome, ReadsAll, joined, PageOf, standing}
 use Rattle.text.specs.declared.ReadError.TheVariants.{Equal, Refused}
 use Rattle.text.specs.TableText.{Reading}
 
@@ -229,7 +235,7 @@ module _ {s : Stand} {bytes : List ℕ} {at : ℕ} {z : Stand} {values told foun
       -- the ticks that were taken, as they are handed to the counting
       handed : (t : Table) (ahead : List ℕ) → After t ahead z →
           TicksHanded t (taken_ticks (fresh_run t) (events_in (lines_in [] ahead))) new s.run.table.nservers
-          s.run.table.ntasks f.ticks told' found' z.servers z.tasks z.modes
+          s.run.table.ntasks f.ticks told' found' z.counts
       handed t ahead a =
           let before = lines_in [] ahead in
           let old = taken_ticks (fresh_run t) (events_in before) in
@@ -263,7 +269,7 @@ module _ {s : Stand} {bytes : List ℕ} {at : ℕ} {z : Stand} {values told foun
           }
 
       pub batch_handed : SomeTicks s.run.table.nservers s.run.table.ntasks f.ticks told' found'
-          z.servers z.tasks z.modes
+          z.counts
       batch_handed =
           let x = b.start in
           let ahead = x.1 ++ take at bytes in (
@@ -274,12 +280,12 @@ module _ {s : Stand} {bytes : List ℕ} {at : ℕ} {z : Stand} {values told foun
           )
 
       -- what stands when they are counted
-      module _ {us vs ws : List ℕ}
+      module _ {d : Counts}
           (counts : CountedAfter s.run.table.nservers s.run.table.ntasks f.ticks told' found'
-          z.servers z.tasks z.modes us vs ws)
+          z.counts d)
         where
           abbrev stands : Stand
-          stands = record { run = f.run; held = c.held; servers = us; tasks = vs; modes = ws }
+          stands = record { run = f.run; held = c.held; counts = d }
 
           batch_reads : Reads (take c.eaten rest) z stands
           batch_reads t ahead a =
@@ -324,6 +330,85 @@ module _ {s : Stand} {bytes : List ℕ} {at : ℕ} {z : Stand} {values told foun
                 found_long = lf ∙ b.going.found_long;
               }
 
+-- Columns that hold the numbers of a night's taken ticks give the page of the night.
+module _ (r : Run) (es : List Event) (c : Counts) (k : Counted r.table (taken_ticks r es) c) where
+  server_same : (i : ℕ) → i < r.table.nservers → server_in c i ≡ server_numbers r es i
+  server_same i l =
+      rw (
+        k.charged i l,
+        k.empty i l,
+        k.longest i l,
+        over_answers (λ a. charged a.turn i) r es,
+        over_answers (λ a. empty_turn a.turn i) r es,
+      )
+
+  task_same : (i : ℕ) → i < r.table.ntasks → task_in c (after r es).state.waiting i ≡ task_numbers r es i
+  task_same i l =
+      rw (
+        k.finished i l,
+        k.cut i l,
+        k.discarded i l,
+        over_lefts (λ x. finished_by x i) r es,
+        over_lefts (λ x. cut_by x i) r es,
+        discarded_taken r es i,
+      )
+
+  mode_same : (m : Mode) → mode_in c.modes m ≡ mode_number r es m
+  mode_same m = k.modes m ∙ sym (over_answers (λ a. in_this_mode m a.mode) r es)
+
+counted_page : (t : Table) (r : Run) (es : List Event) (c : Counts) (waiting : List ℕ) →
+    Counted t (taken_ticks r es) c → r.table ≡ t → waiting ≡ (after r es).state.waiting →
+    page_in t.nservers t.ntasks c waiting ≡ report_lines r es
+counted_page t r es c waiting k e w = rw (← e, w) (same (rw (← e) at k))
+  where
+    same : Counted r.table (taken_ticks r es) c →
+        page_in r.table.nservers r.table.ntasks c (after r es).state.waiting ≡ report_lines r es
+    same k =
+        page_same
+        r.table.nservers
+        r.table.ntasks
+        (server_in c)
+        (server_numbers r es)
+        (task_in c (after r es).state.waiting)
+        (task_numbers r es)
+        (mode_in c.modes)
+        (mode_number r es)
+        (server_same r es c k)
+        (task_same r es c k)
+        (mode_same r es c k)
+
+-- Columns of zeros hold the numbers of no tick.
+counted_none : (t : Table) → t.nservers ≤ 32 → t.ntasks ≤ 64 → Counted t [] no_counts
+unfolding over_ticks row_to longest_row
+counted_none t few many =
+    record {
+      columns =
+          record {
+            charged = refl;
+            empty = refl;
+            row = refl;
+            longest = refl;
+            finished = refl;
+            cut = refl;
+            discarded = refl;
+            modes = refl;
+          };
+      charged = λ i l. get_or-replicate {A = ℕ} 32 i 0 0 (omega arith);
+      empty = λ i l. get_or-replicate {A = ℕ} 32 i 0 0 (omega arith);
+      row = λ i l. get_or-replicate {A = ℕ} 32 i 0 0 (omega arith);
+      longest = λ i l. get_or-replicate {A = ℕ} 32 i 0 0 (omega arith);
+      finished = λ k l. get_or-replicate {A = ℕ} 64 k 0 0 (omega arith);
+      cut = λ k l. get_or-replicate {A = ℕ} 64 k 0 0 (omega arith);
+      discarded = λ k l. get_or-replicate {A = ℕ} 64 k 0 0 (omega arith);
+      small = λ k l. omega (arith, get_or-replicate {A = ℕ} 64 k 0 0 (omega arith));
+      modes = none;
+    }
+  where
+    none : (m : Mode) → get_or {A = ℕ} (replicate 3 0) (mode_value m) 0 ≡ 0
+    none N = refl
+    none D1 = refl
+    none D2 = refl
+
 -- The page of what stands: an unclosed last line is no event.
 last_none : (l : List ℕ) → events_in (last_line l) ≡ []
 unfolding events_in
@@ -339,9 +424,7 @@ file_events file =
 
 pub page_of : (s : Stand) (text : List ℕ) →
     text
-    ≡ closed
-    (page_in s.run.table.nservers s.run.table.ntasks s.servers s.tasks s.run.state.waiting
-    s.modes) →
+    ≡ closed (page_in s.run.table.nservers s.run.table.ntasks s.counts s.run.state.waiting) →
     PageOf s text
 page_of s text e t file a =
     let es = events_in (lines_in [] file) in
@@ -349,11 +432,10 @@ page_of s text e t file a =
     e ∙
     ap
     (λ (x : Table).
-    closed (page_in x.nservers x.ntasks s.servers s.tasks s.run.state.waiting s.modes))
+    closed (page_in x.nservers x.ntasks s.counts s.run.state.waiting))
     (after_table t file s a) ∙
     ap closed
-    (counted_page t (fresh_run t) es s.servers s.tasks s.modes s.run.state.waiting a.counted refl
-    waits) ∙
+    (counted_page t (fresh_run t) es s.counts s.run.state.waiting a.counted refl waits) ∙
     ap (λ (x : List Event). closed (report_lines (fresh_run t) x)) (file_events file)
 
 -- A file read in any pieces: the page is the report of the file.

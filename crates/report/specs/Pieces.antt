@@ -2,7 +2,7 @@
 -- buffer and the cutting of the file into reads must not show". What stands after some bytes of the
 -- file depends on these bytes alone, however they were cut into pieces; that the page is then the
 -- report of the whole file is a theorem (proofs/Pieces.antt, `pieces_report`).
-use Rattle.std.specs.Prelude.{◌≡◌, Bool, true, false, List, [], ◌∷◌, ◌++◌, ℕ, replicate}
+use Rattle.std.specs.Prelude.{◌≡◌, Bool, true, false, List, [], ◌∷◌, ◌++◌, ℕ}
 use Rattle.decimal.specs.Lines.{closed}
 use Rattle.table.specs.declared.Table.{Table}
 use Rattle.table.specs.Rules.{table_keeps}
@@ -17,43 +17,32 @@ use Rattle.lines.specs.EventLine.{event_lines}
 use Rattle.lines.specs.Cutting.{lines_in, left_in}
 use Rattle.morning.specs.Numbers.{events_in}
 use Rattle.morning.specs.Page.{report_lines}
-use Rattle.morning.specs.Inner.{Counted}
 use Rattle.files.specs.declared.How.{How}
 use Rattle.files.specs.declared.How.TheVariants.{On, End, Failed}
 use Rattle.report.specs.declared.Morning.{Morning}
+use Rattle.report.specs.declared.count.Counts.{Counts}
+use Rattle.report.specs.Inner.Count.{Counted, no_counts}
 
--- What stands between two reads: the run, the line that is not closed yet, and the three arrays of
--- numbers.
+-- What stands between two reads: the run, the line that is not closed yet, and the numbers.
 pub record Stand : Type 0 where
   pub run : Run
   pub held : Held
-  pub servers : List ℕ
-  pub tasks : List ℕ
-  pub modes : List ℕ
+  pub counts : Counts
 
-abbrev pub standing : Morning → List ℕ → List ℕ → List ℕ → Stand
-standing n servers tasks modes =
-    record { run = n.run; held = n.held; servers = servers; tasks = tasks; modes = modes }
+abbrev pub standing : Morning → Counts → Stand
+standing n counts = record { run = n.run; held = n.held; counts = counts }
 
 -- a fresh start with table t: nothing was read, "all zeros"
 abbrev pub start_with : Table → Stand
-start_with t =
-    record {
-      run = fresh_run t;
-      held = held_of [];
-      servers = replicate 128 0;
-      tasks = replicate 192 0;
-      modes = replicate 3 0;
-    }
+start_with t = record { run = fresh_run t; held = held_of []; counts = no_counts }
 
 -- These bytes of the file were read, from a fresh start with table t: each line that they close was
--- sent to the run, the last one is held, and the arrays hold the numbers of the ticks that were
+-- sent to the run, the last one is held, and the columns hold the numbers of the ticks that were
 -- taken.
 pub record After (t : Table) (bytes : List ℕ) (s : Stand) : Type 0 where
   pub run : s.run ≡ after_lines (fresh_run t) (lines_in [] bytes)
   pub held : s.held ≡ held_of (left_in [] bytes)
-  pub counted :
-      Counted t (taken_ticks (fresh_run t) (events_in (lines_in [] bytes))) s.servers s.tasks s.modes
+  pub counted : Counted t (taken_ticks (fresh_run t) (events_in (lines_in [] bytes))) s.counts
   -- the table keeps the rules, and its arrays have the lengths of every table that code holds
   pub keeps : table_keeps t ≡ true
   pub sized : Sized t
@@ -70,19 +59,19 @@ Reads piece s z = (t : Table) (bytes : List ℕ) → After t bytes s → After t
 abbrev pub ReadsSome : Stand → Stand → Type 0
 ReadsSome s z = (file : List ℕ) × Reads file s z
 
--- how a read ended, and the bytes that it left
+-- what was read by a turn
 abbrev pub piece_of : How → List ℕ → List ℕ
 piece_of On bytes = bytes
 piece_of End bytes = []
 piece_of Failed bytes = []
 
--- it goes on
+-- a turn after which the file goes on
 abbrev pub goes_on : How → Bool
 goes_on On = true
 goes_on End = false
 goes_on Failed = false
 
--- the file was read to its end
+-- a turn after which it was read whole
 abbrev pub is_whole : How → Bool
 is_whole On = false
 is_whole End = true

@@ -1,167 +1,128 @@
 // report TABLE EVENTS: the morning report, one page for a night's event file. (02, No. 1.) The file
 // is read in pieces; the line that is not closed yet is held, so the cutting into reads does not
-// show. Every number is counted by `next`, and every byte of the page made by `put_report`, which
-// neither read nor write (specs/Pieces.antt).
+// show. Every number is counted by `count_piece`, and every byte of the page made by `put_report`,
+// which neither read nor write (specs/Pieces.antt).
 
 #![tactic(auto)]
 
 mod count;
 mod page;
 
-ghost use Rattle.std.specs.Prelude.{◌≡◌, true, false, ◌≤◌, length, take};
+ghost use Rattle.std.specs.Prelude.{◌≡◌, ◌≤◌, length, take, MatchOption, ⊤};
 ghost use Rattle.report.specs.Inner.Page.{longest_page};
 ghost use Rattle.report.specs.Pieces.{standing, AfterSome, Reads, ReadsSome, piece_of, goes_on, is_whole, PageOf};
 
-use count::{SERVER_COUNTS, TASK_COUNTS};
+use count::{Counts, no_counts};
 use events::{LINE_VALUES, TOLD_VALUES};
 use files::How;
 use files::given::say_refused;
-use lines::Held;
+use lines::{BATCH, Held};
 use page::ROOM;
 use run::{FOUND_VALUES, Run};
 use std::io::Read;
 use std::process::ExitCode;
 use std::rt::Runtime;
-use table::{MODES, Table};
+use table::Table;
 
 // The event file is read in pieces of so many bytes.
 const PIECE: usize = 16384;
 
-// So many lines at most are counted at once.
-const BATCH: usize = 1024;
-
-// A file so far: the run, the line that is held, whether it goes on, and whether it was read to its
-// end.
+// A file so far: the run, and the line that is held.
+// Kept: counts is lent, and no field of Morning: it is large, and would be copied for each turn.
 #[derive(Clone, Copy)]
 struct Morning {
     run: Run,
     held: Held,
-    going: bool,
-    whole: bool,
 }
 
 // All of a piece: a batch of lines at a time is cut, sent to the run and counted.
-fn count_piece(
-    n: Morning,
-    bytes: &[u8],
-    servers: &mut [u32; SERVER_COUNTS],
-    tasks: &mut [u64; TASK_COUNTS],
-    modes: &mut [u64; MODES],
-) -> Morning
-    requires { AfterSome (standing n servers.old tasks.old modes.old) }
-    ensures reads { Reads bytes.now
-        (standing n servers.old tasks.old modes.old)
-        (standing result servers.new tasks.new modes.new) }
-    ensures going_value { (result.going ≡ true) × (result.whole ≡ false) }
+// Kept: three rooms of a batch (no heap), and a place in the piece that moves by what was eaten.
+fn count_piece(n: Morning, bytes: &[u8], counts: &mut Counts) -> Morning
+    requires { AfterSome (standing n counts.old) }
+    ensures { Reads bytes.now (standing n counts.old) (standing result counts.new) }
 {
-    let mut run = n.run;
-    let mut held = n.held;
+    let Morning { mut run, mut held } = n;
     let mut at = 0;
     let mut values = [0u64; LINE_VALUES * BATCH];
     let mut told = [0u64; TOLD_VALUES * BATCH];
     let mut found = [0u8; FOUND_VALUES * BATCH];
-    let t = run.table;
-    let nservers = t.nservers;
-    let ntasks = t.ntasks;
+    let nservers = run.table.nservers;
+    let ntasks = run.table.ntasks;
     while at < bytes.len() {
         let c = cutter::cut_lines(held, &bytes[at..], &mut values);
-        let k = c.many;
-        let m = scheduler::many::find_many(run, &values[..LINE_VALUES * k], &mut told, &mut found);
-        count::count_ticks(
-            nservers, ntasks, m.ticks, &told, &mut found, servers, tasks, modes,
-        );
+        let said = &values[..LINE_VALUES * c.many];
+        let m = scheduler::many::find_many(run, said, &mut told, &mut found);
+        count::count_ticks(nservers, ntasks, m.ticks, &told, &mut found, counts);
         run = m.run;
         held = c.held;
         at += c.eaten;
     }
-    Morning {
-        run,
-        held,
-        going: true,
-        whole: false,
-    }
+    Morning { run, held }
 }
 
 // One turn: what was read is counted. At the end of the file, and where it could not be read, there
 // is nothing to count.
-fn next(
-    n: Morning,
-    how: How,
-    bytes: &[u8],
-    servers: &mut [u32; SERVER_COUNTS],
-    tasks: &mut [u64; TASK_COUNTS],
-    modes: &mut [u64; MODES],
-) -> Morning
-    requires { AfterSome (standing n servers.old tasks.old modes.old) }
-    ensures reads { Reads (piece_of how bytes.now)
-        (standing n servers.old tasks.old modes.old)
-        (standing result servers.new tasks.new modes.new) }
-    ensures going_value { (result.going ≡ goes_on how) × (result.whole ≡ is_whole how) }
+// Kept: next and count_all are not the night's: they count into what is lent, and write nothing.
+fn next(m: Morning, how: How, bytes: &[u8], counts: &mut Counts) -> Morning
+    requires { AfterSome (standing m counts.old) }
+    ensures { Reads (piece_of how bytes.now) (standing m counts.old) (standing result counts.new) }
 {
-    match how {
-        How::On => count_piece(n, bytes, servers, tasks, modes),
-        How::End => Morning {
-            going: false,
-            whole: true,
-            ..n
-        },
-        How::Failed => Morning {
-            going: false,
-            whole: false,
-            ..n
-        },
+    if goes_on(how) {
+        count_piece(m, bytes, counts)
+    } else {
+        m
     }
 }
 
-// The whole file. Nothing else reads it.
+// Whether the file goes on after a read that ended so.
+fn goes_on(how: How) -> bool
+    ensures { result ≡ goes_on how }
+{
+    how == How::On
+}
+
+// Whether it was read whole then.
+fn is_whole(how: How) -> bool
+    ensures { result ≡ is_whole how }
+{
+    how == How::End
+}
+
+// The whole file, or none where it could not be read to its end. Nothing else reads it.
 fn count_all<R: Eprint, S: Read>(
     rt: &R,
     n: Morning,
     events: &mut S,
-    servers: &mut [u32; SERVER_COUNTS],
-    tasks: &mut [u64; TASK_COUNTS],
-    modes: &mut [u64; MODES],
-) -> Morning
-    requires { AfterSome (standing n servers.old tasks.old modes.old) }
-    ensures { ReadsSome
-        (standing n servers.old tasks.old modes.old)
-        (standing result servers.new tasks.new modes.new) }
+    counts: &mut Counts,
+) -> Option<Morning>
+    requires { AfterSome (standing n counts.old) }
+    ensures { MatchOption result ⊤ (λ m. ReadsSome (standing n counts.old)
+        (standing m counts.new)) }
 {
     let mut m = n;
     let mut piece = [0u8; PIECE];
     for _ in 0..files::TURNS {
         let got = files::take_piece(rt, events, &mut piece);
-        let k = got.len;
-        let how = got.how;
-        m = next(m, how, &piece[..k], servers, tasks, modes);
-        if !m.going {
-            break;
+        m = next(m, got.how, &piece[..got.len], counts);
+        if !goes_on(got.how) {
+            return if is_whole(got.how) { Some(m) } else { None };
         }
     }
-    m
+    None
 }
 
 // The page of what was read.
-fn put_report(
-    n: Morning,
-    servers: &[u32; SERVER_COUNTS],
-    tasks: &[u64; TASK_COUNTS],
-    modes: &[u64; MODES],
-    room: &mut [u8],
-) -> usize
-    requires after_some { AfterSome (standing n servers.now tasks.now modes.now) }
+fn put_report(n: Morning, counts: &Counts, room: &mut [u8]) -> usize
+    requires after_some { AfterSome (standing n counts.now) }
     requires longest_page_in_bounds { longest_page ≤ length room.old }
-    ensures { PageOf (standing n servers.now tasks.now modes.now)
-        (take result room.new) }
+    ensures { PageOf (standing n counts.now) (take result room.new) }
 {
-    let run = n.run;
-    let t = run.table;
-    let s = run.state;
-    let waiting = s.waiting;
-    page::put_page(t.nservers, t.ntasks, servers, tasks, &waiting, modes, room)
+    let t = &n.run.table;
+    page::put_page(t.nservers, t.ntasks, counts, &n.run.state.waiting, room)
 }
 
 // Whether everything was answered; where not, why was said.
+// Kept: one function for all programs would be public, and what it answers is the system's.
 fn is_answered<R: Runtime>(rt: &R) -> bool {
     let help = b"report TABLE EVENTS\n\
         Prints the morning report of the event file EVENTS, from a fresh start with the\n\
@@ -197,28 +158,13 @@ fn is_answered<R: Runtime>(rt: &R) -> bool {
     let started = scheduler::start(t);
     let run = started.run;
     let held = cutter::no_line();
-    let mut servers = [0u32; SERVER_COUNTS];
-    let mut tasks = [0u64; TASK_COUNTS];
-    let mut modes = [0u64; MODES];
-    let morning = Morning {
-        run,
-        held,
-        going: true,
-        whole: false,
-    };
-    let read = count_all(
-        rt,
-        morning,
-        &mut events,
-        &mut servers,
-        &mut tasks,
-        &mut modes,
-    );
-    if !read.whole {
+    let mut counts = no_counts();
+    let morning = Morning { run, held };
+    let Some(read) = count_all(rt, morning, &mut events, &mut counts) else {
         return false;
-    }
+    };
     let mut room = [0u8; ROOM];
-    let n = put_report(read, &servers, &tasks, &modes, &mut room);
+    let n = put_report(read, &counts, &mut room);
     files::write_first(rt, &room, n)
 }
 

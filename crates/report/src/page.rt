@@ -9,7 +9,7 @@ ghost use Rattle.lines.specs.AnswerLine.{printed};
 ghost use Rattle.report.specs.Inner.Page.{FieldPut, LinesPut, server_line_in, task_line_in};
 ghost use Rattle.report.specs.Inner.Page.{server_lines_in, task_lines_in, mode_lines_in, page_in, longest_page};
 
-use crate::count::{CHARGED, CUT, DISCARDED, EMPTY, FINISHED, LONGEST, SERVER_COUNTS, TASK_COUNTS};
+use crate::count::Counts;
 use decimal::put::{put_all, put_byte, put_number};
 use table::{MODES, SERVERS, TASKS};
 
@@ -17,6 +17,7 @@ use table::{MODES, SERVERS, TASKS};
 pub(crate) const ROOM: usize = (SERVERS + TASKS + MODES) * 127;
 
 // A tab and a number.
+// Kept: the put_ functions take (room, at), as decimal's public ones; no heap for a String.
 fn put_field(x: u64, room: &mut [u8], at: usize) -> usize
     ensures { FieldPut x room.old at room.new result }
 {
@@ -24,70 +25,53 @@ fn put_field(x: u64, room: &mut [u8], at: usize) -> usize
     put_number(x, room, k)
 }
 
-fn put_count(x: u32, room: &mut [u8], at: usize) -> usize
-    ensures { FieldPut x room.old at room.new result }
-{
-    put_field(x as u64, room, at)
-}
-
-fn put_server(i: usize, servers: &[u32; SERVER_COUNTS], room: &mut [u8], at: usize) -> usize
+fn put_server(i: usize, counts: &Counts, room: &mut [u8], at: usize) -> usize
     requires { i < 32 }
-    ensures { LinesPut (server_line_in servers.now i ∷ []) room.old at room.new result }
+    ensures { LinesPut (server_line_in counts.now i ∷ []) room.old at room.new result }
 {
     let k = put_all(b"server", room, at);
     let k = put_field(i as u64, room, k);
-    let k = put_count(servers[CHARGED + i], room, k);
-    let k = put_count(servers[EMPTY + i], room, k);
-    let k = put_count(servers[LONGEST + i], room, k);
+    let k = put_field(u64::from(counts.charged[i]), room, k);
+    let k = put_field(u64::from(counts.empty[i]), room, k);
+    let k = put_field(u64::from(counts.longest[i]), room, k);
     put_byte(b'\n', room, k)
 }
 
-fn put_servers(n: usize, servers: &[u32; SERVER_COUNTS], room: &mut [u8], at: usize) -> usize
+// Kept: put_servers and put_tasks go by row, for a row's numbers stand in several columns.
+fn put_servers(n: usize, counts: &Counts, room: &mut [u8], at: usize) -> usize
     requires { n ≤ 32 }
-    ensures { LinesPut (server_lines_in n servers.now) room.old at room.new result }
+    ensures { LinesPut (server_lines_in n counts.now) room.old at room.new result }
 {
     let mut k = at;
     for i in 0..n {
-        k = put_server(i, servers, room, k);
+        k = put_server(i, counts, room, k);
     }
     k
 }
 
-fn put_task(
-    i: usize,
-    tasks: &[u64; TASK_COUNTS],
-    waiting: &[u8; TASKS],
-    room: &mut [u8],
-    at: usize,
-) -> usize
+fn put_task(i: usize, counts: &Counts, waiting: &[u8; TASKS], room: &mut [u8], at: usize) -> usize
     requires { i < 64 }
-    ensures { LinesPut (task_line_in tasks.now waiting.now i ∷ [])
+    ensures { LinesPut (task_line_in counts.now waiting.now i ∷ [])
         room.old at room.new result }
 {
     let waits = queues::job_count(waiting[i]);
     let k = put_all(b"task", room, at);
     let k = put_field(i as u64, room, k);
-    let k = put_field(tasks[FINISHED + i], room, k);
-    let k = put_field(tasks[CUT + i], room, k);
-    let k = put_field(tasks[DISCARDED + i], room, k);
-    let k = put_count(waits, room, k);
+    let k = put_field(counts.finished[i], room, k);
+    let k = put_field(counts.cut[i], room, k);
+    let k = put_field(counts.discarded[i], room, k);
+    let k = put_field(u64::from(waits), room, k);
     put_byte(b'\n', room, k)
 }
 
-fn put_tasks(
-    n: usize,
-    tasks: &[u64; TASK_COUNTS],
-    waiting: &[u8; TASKS],
-    room: &mut [u8],
-    at: usize,
-) -> usize
+fn put_tasks(n: usize, counts: &Counts, waiting: &[u8; TASKS], room: &mut [u8], at: usize) -> usize
     requires { n ≤ 64 }
-    ensures { LinesPut (task_lines_in n tasks.now waiting.now)
+    ensures { LinesPut (task_lines_in n counts.now waiting.now)
         room.old at room.new result }
 {
     let mut k = at;
     for i in 0..n {
-        k = put_task(i, tasks, waiting, room, k);
+        k = put_task(i, counts, waiting, room, k);
     }
     k
 }
@@ -117,20 +101,16 @@ fn put_modes(modes: &[u64; MODES], room: &mut [u8], at: usize) -> usize
 pub(crate) fn put_page(
     nservers: usize,
     ntasks: usize,
-    servers: &[u32; SERVER_COUNTS],
-    tasks: &[u64; TASK_COUNTS],
+    counts: &Counts,
     waiting: &[u8; TASKS],
-    modes: &[u64; MODES],
     room: &mut [u8],
 ) -> usize
     requires nservers_bound { (nservers ≤ 32) × (ntasks ≤ 64) }
     requires longest_page_in_bounds { longest_page ≤ length room.old }
     ensures { take result room.new
-        ≡ closed
-        (page_in nservers ntasks servers.now tasks.now waiting.now
-        modes.now) }
+        ≡ closed (page_in nservers ntasks counts.now waiting.now) }
 {
-    let k = put_servers(nservers, servers, room, 0);
-    let k = put_tasks(ntasks, tasks, waiting, room, k);
-    put_modes(modes, room, k)
+    let k = put_servers(nservers, counts, room, 0);
+    let k = put_tasks(ntasks, counts, waiting, room, k);
+    put_modes(&counts.modes, room, k)
 }

@@ -1,45 +1,50 @@
--- `cutter::hold` meets its contract: before place i the places from the held bytes on are as
--- they will be (Held.antt). Assumes nothing.
-use mathlib.Core.Path.{◌≡◌, ◌∙◌}
-use native.Mathlib.Omega.{arith}
-use lib.ListN.{length}
-use borrow.Author.Rules.{rules}
+-- `cutter::hold` meets its contract: the held bytes, those behind them, and zeros. Assumes nothing.
+use Rattle.std.proofs.Common.{rules, arith, ◌≡◌, List, ◌++◌, append-nil, ℕ, ◌+◌, ◌-◌, ◌∙◌, length, take, drop, length-drop, replicate, refl}
+use Rattle.std.proofs.Math.ListN.{drop_of_length-le}
+use Rattle.std.proofs.Math.Seq.{length-take-le}
+use Rattle.std.proofs.lemmas.Slice.{take-put_mid, drop-put_mid}
+use borrow.Rule.Slice.PartMut.{put_mid}
 use Rattle.lines.specs.HeldLine.{longest}
-use Rattle.lines.proofs.HeldLine.{holding_start, holding_next, holding_done, past_long, past_part}
+use Rattle.lines.proofs.HeldLine.{held_with, past_long, past_part}
 use Rattle.cutter.proofs.hold.Goals as goal
-use Rattle.cutter.proofs.hold.Goals.{Start}
+use Rattle.cutter.proofs.hold.Goals.{Start, then-h-gt-LONGEST_EVENT-via-then-h-gt-LONGEST_EVENT, then-h-gt-LONGEST_EVENT-via-else-h-gt-LONGEST_EVENT+then-h-part}
 
 long : (c : Start) → length c.args.h.bytes ≡ longest
 unfolding longest
 long c = search rules
 
-pub returns-then-from-gt-LONGEST_EVENT : goal.returns-then-from-gt-LONGEST_EVENT
+pub returns-then-h-gt-LONGEST_EVENT : goal.returns-then-h-gt-LONGEST_EVENT
 unfolding longest
-returns-then-from-gt-LONGEST_EVENT c = c.too_long.ensures ∙ past_long _ _ c.if-from-gt-LONGEST_EVENT.true
+returns-then-h-gt-LONGEST_EVENT c =
+    c.too_long.ensures ∙ elim c.then-h-gt-LONGEST_EVENT.branch [
+      | then-h-gt-LONGEST_EVENT-via-then-h-gt-LONGEST_EVENT w ↦ past_long _ _ w.if-h-gt-LONGEST_EVENT.true
+      | then-h-gt-LONGEST_EVENT-via-else-h-gt-LONGEST_EVENT+then-h-part w ↦
+          past_part _ _ w.if-h-gt-LONGEST_EVENT.false (long (goal.at.returns-then-h-gt-LONGEST_EVENT c).Start) w.if-h-part.true
+    ]
 
-pub returns-then-from-part : goal.returns-then-from-part
-unfolding longest
-returns-then-from-part c =
-    c.too_long-then-from-part.ensures ∙ past_part _ _ c.if-from-gt-LONGEST_EVENT.false (long (goal.at.returns-then-from-part c).Start) c.if-from-part.true
-
-pub loop-i-init : goal.loop-i-init
-unfolding longest
-loop-i-init c =
-    holding_start _ _ c.if-from-gt-LONGEST_EVENT.false (long (goal.at.loop-i-init c).Start) c.if-from-part.false
-
-pub overflow_sub-i : goal.overflow_sub-i
-overflow_sub-i c = omega (arith, c.loop-i.invariant.within)
-
-pub loop-i-preserved : goal.loop-i-preserved
-unfolding longest
-loop-i-preserved c =
-    rw c.byte_at.ensures
-    (holding_next _ _ c.if-from-gt-LONGEST_EVENT.false (long (goal.at.loop-i-preserved c).Start) c.if-from-part.false _ _
-    c.loop-i.invariant
-    c.loop-i-test.true)
+-- what stands after both writes: k places are left behind n
+filled : (bytes part zeros : List ℕ) (len n k : ℕ) → length bytes ≡ n + k → n ≡ len + length part →
+    zeros ≡ replicate (length (take k (drop n (put_mid len (n - len) bytes part)))) 0 →
+    (put_mid n k (put_mid len (n - len) bytes part) zeros ≡ (take len bytes ++ part) ++ zeros)
+    × (zeros ≡ replicate k 0)
+filled bytes part zeros len n k e m z =
+    let d : drop n (put_mid len (n - len) bytes part) ≡ drop n bytes =
+    drop-put_mid len (n - len) bytes part n (omega arith) (omega arith) (omega arith) in
+    let t : take n (put_mid len (n - len) bytes part) ≡ take len bytes ++ part =
+    take-put_mid len (n - len) bytes part n m (omega arith) in
+    let l : length (drop n bytes) ≡ k = omega (arith, length-drop n bytes) in (
+      rw (t, d, drop_of_length-le (drop n bytes) {i = k} (omega arith), append-nil zeros),
+      z ∙ rw (d, length-take-le k (drop n bytes) (omega arith)),
+    )
 
 pub returns : goal.returns
 unfolding longest
 returns c =
-    holding_done _ _ c.if-from-gt-LONGEST_EVENT.false (long (goal.at.returns c).Start) c.if-from-part.false _ _ c.loop-i.invariant
-    c.loop-i-test.false
+    let h = c.args.h in
+    let part = c.args.part.now in
+    let n = h.len + length part in
+    let s = long (goal.at.returns c).Start in
+    let z = rw c.copy_from_slice.ensures.after at (c.fill.ensures.after (λ y e. e)) in
+    let f = filled h.bytes part c.fill.new.self h.len n (13 - n) (omega (arith, s, c.if-h-gt-LONGEST_EVENT.false, c.if-h-part.false)) refl z in
+    rw (c.copy_from_slice.ensures.after, f.0)
+    (held_with h part c.fill.new.self c.if-h-gt-LONGEST_EVENT.false s c.if-h-part.false f.1)

@@ -15,5 +15,5 @@ returns-then-h-eq0 c =
 pub returns : goal.returns
 returns c =
     let a = c.args in
-    c.read_held.ensures ∙ ap (λ h. event_line (line_in h)) c.hold-whole.ensures ∙ held_says_lem
+    c.read_held.ensures ∙ ap (λ h. event_line (line_in h)) c.hold.ensures ∙ held_says_lem
     (line_in a.h ++ a.part.now)

@@ -1,5 +1,5 @@
--- Counting taken ticks, one array after the other: which places change, that the arrays then hold the
--- numbers of one tick more, and how a loop goes over many ticks. Assumes nothing.
+-- Counting taken ticks: which columns change, and where; that they then hold the numbers of one tick
+-- more; and how a loop goes over many ticks. Assumes nothing.
 use Rattle.std.specs.Prelude.{if◌then◌else◌}
 use mathlib.Core.Path.{◌≡◌, refl, sym, ap, ap₂, ◌∙◌}
 use mathlib.Core.Bool.{Bool, true, false, not, ◌&&◌}
@@ -12,7 +12,6 @@ use native.Mathlib.Numerals.{add-one}
 use lib.Dec.{eqb, ltb}
 use lib.ListN.{length, get_or, set, take, drop, length-set, length-append, length-drop}
 use lib.Seq.{set-get_or, take-take, take-add, take_at, drop_at, drop-drop}
-use borrow.Author.Count.{below_more}
 use borrow.Rule.Slice.PartMut.{put_mid, drop_put}
 use borrow.Author.Tests.{eqb-true, eqb-false, ne_eqb, lt-ltb}
 use Rattle.laws.specs.Choice.{larger, one_if}
@@ -37,143 +36,37 @@ use Rattle.events.proofs.Answers.{charged_le}
 use Rattle.events.proofs.Values.{told_length}
 use Rattle.run.proofs.Found.{found_length, found_server, found_task}
 use Rattle.morning.specs.Numbers.{empty_turn, passed_over, in_this_mode}
-use Rattle.morning.specs.Inner.{over_ticks, row_to, ServersCounted, TasksCounted, ModesCounted, Counted}
-use Rattle.morning.specs.Inner.{ServerBelow, TaskBelow, TickFits}
+use Rattle.morning.specs.Inner.{over_ticks, row_to, ServerBelow, TaskBelow, TickFits}
 use Rattle.morning.proofs.Inner.{over_next, over_most, row_next, row_most, longest_next}
 use Rattle.report.specs.Inner.Count.{added, turn_counted, left_counted, uncharged, row_after, RowsCounted}
-use Rattle.report.specs.Inner.Count.{DiscardsCounted, TickHanded, TicksHanded}
+use Rattle.report.specs.Inner.Count.{DiscardsCounted, TickHanded, TicksHanded, Columns, Counted}
+use Rattle.report.specs.declared.count.Counts.{Counts}
 
--- two places set, the others as they were
-others : (xs : List ℕ) (a v b w j : ℕ) → (a ≡ j → ⊥) → (b ≡ j → ⊥) → get_or (set (set xs a v) b w) j 0 ≡ get_or xs j 0
-others xs a v b w j p q = set_past (set xs a v) b w j q ∙ set_past xs a v j p
+-- The rows of i servers counted: those of the others are as they were.
+pub record RowsGoing (i : ℕ) (found : List ℕ) (c d : Counts) : Type 0 where
+  pub done : RowsCounted i found c d
+  pub row_rest : (j : ℕ) → i ≤ j → get_or d.row j 0 ≡ get_or c.row j 0
+  pub longest_rest : (j : ℕ) → i ≤ j → get_or d.longest j 0 ≡ get_or c.longest j 0
 
--- one more, where the test holds, fits
-pub one_fits : (b : Bool) (x r m : ℕ) → r ≡ one_if b → x < m → (b ≡ true → x < m - 1) → x + r < m
-one_fits true x r m e l h = omega (arith, h refl)
-one_fits false x r m e l h = omega arith
-
--- The rows of i servers counted: the columns of the others are as they were.
-pub record RowsGoing (i : ℕ) (found xs ys : List ℕ) : Type 0 where
-  pub done : RowsCounted i found xs ys
-  pub row_rest : (j : ℕ) → i ≤ j → j < 32 → get_or ys (64 + j) 0 ≡ get_or xs (64 + j) 0
-  pub longest_rest : (j : ℕ) → i ≤ j → get_or ys (96 + j) 0 ≡ get_or xs (96 + j) 0
-
-pub rows_start : (found xs : List ℕ) → RowsGoing 0 found xs xs
-rows_start found xs =
-    record {
-      done = record {
-        long = refl;
-        before = λ j l. refl;
-        row = λ j l. absurd (omega arith);
-        longest = λ j l. absurd (omega arith);
-      };
-      row_rest = λ j l m. refl;
-      longest_rest = λ j l. refl;
-    }
-
-pub rows_more : (i : ℕ) (found xs ys : List ℕ) (v w : ℕ) → i < 32 → length xs ≡ 128 →
-    v ≡ row_after (get_or found i 0) (get_or ys (64 + i) 0) → w ≡ larger (get_or (set ys (64 + i) v) (96 + i) 0) v →
-    RowsGoing i found xs ys → RowsGoing (i + 1) found xs (set (set ys (64 + i) v) (96 + i) w)
-rows_more i found xs ys v w l n e f g =
-    let zs = set ys (64 + i) v in
-    let us = set zs (96 + i) w in
-    let d = g.done in
-    let p : get_or us (64 + i) 0 ≡ v =
-    set_past zs (96 + i) w (64 + i) (λ q. omega arith)
-    ∙ set_at ys (64 + i) v (64 + i) (omega (arith, d.long)) refl in
-    record {
-      done = record {
-        long = length-set zs (96 + i) w ∙ length-set ys (64 + i) v ∙ d.long;
-        before = λ j m. others ys (64 + i) v (96 + i) w j (λ q. omega arith) (λ q. omega arith) ∙ d.before j m;
-        row =
-            below_more (λ j. get_or us (64 + j) 0 ≡ row_after (get_or found j 0) (get_or xs (64 + j) 0)) i
-            (λ j m. others ys (64 + i) v (96 + i) w (64 + j) (λ q. omega arith) (λ q. omega arith) ∙ d.row j m)
-            (p ∙ e ∙ ap (row_after (get_or found i 0)) (g.row_rest i (omega arith) l));
-        longest =
-            below_more (λ j. get_or us (96 + j) 0 ≡ larger (get_or xs (96 + j) 0) (get_or us (64 + j) 0)) i
-            (λ j m.
-            others ys (64 + i) v (96 + i) w (96 + j) (λ q. omega arith) (λ q. omega arith)
-            ∙ d.longest j m
-            ∙ ap (larger (get_or xs (96 + j) 0))
-            (sym (others ys (64 + i) v (96 + i) w (64 + j) (λ q. omega arith) (λ q. omega arith))))
-            (set_at zs (96 + i) w (96 + i) (omega (arith, length-set ys (64 + i) v, d.long)) refl
-            ∙ f
-            ∙ rw (set_past ys (64 + i) v (96 + i) (λ q. omega arith), g.longest_rest i (omega arith), p));
-      };
-      row_rest = λ j a b.
-          others ys (64 + i) v (96 + i) w (64 + j) (λ q. omega arith) (λ q. omega arith)
-          ∙ g.row_rest j (omega arith) b;
-      longest_rest = λ j a.
-          others ys (64 + i) v (96 + i) w (96 + j) (λ q. omega arith) (λ q. omega arith)
-          ∙ g.longest_rest j (omega arith);
-    }
-
--- The discards of k tasks counted: the column of the others is as it was.
-pub record DiscardsGoing (k : ℕ) (found xs ys : List ℕ) : Type 0 where
-  pub done : DiscardsCounted k found xs ys
-  pub rest : (j : ℕ) → k ≤ j → get_or ys (128 + j) 0 ≡ get_or xs (128 + j) 0
-
-pub discards_start : (found xs : List ℕ) → DiscardsGoing 0 found xs xs
-discards_start found xs =
-    record {
-      done = record { long = refl; before = λ j l. refl; discarded = λ j l. absurd (omega arith) };
-      rest = λ j l. refl;
-    }
-
-pub discards_more : (k : ℕ) (found xs ys : List ℕ) (v : ℕ) → 128 + k < length xs →
-    v ≡ get_or ys (128 + k) 0 + get_or found (32 + k) 0 →
-    DiscardsGoing k found xs ys → DiscardsGoing (k + 1) found xs (set ys (128 + k) v)
-discards_more k found xs ys v l e g =
-    let d = g.done in
-    record {
-      done = record {
-        long = length-set ys (128 + k) v ∙ d.long;
-        before = λ j m. set_past ys (128 + k) v j (λ q. omega arith) ∙ d.before j m;
-        discarded =
-            below_more (λ j. get_or (set ys (128 + k) v) (128 + j) 0 ≡ get_or xs (128 + j) 0 + get_or found (32 + j) 0) k
-            (λ j m. set_past ys (128 + k) v (128 + j) (λ q. omega arith) ∙ d.discarded j m)
-            (set_at ys (128 + k) v (128 + k) (omega (arith, d.long)) refl
-            ∙ e
-            ∙ ap (λ x. x + get_or found (32 + k) 0) (g.rest k (omega arith)));
-      };
-      rest = λ j a. set_past ys (128 + k) v (128 + j) (λ q. omega arith) ∙ g.rest j (omega arith);
-    }
+-- The discards of k tasks counted: those of the others are as they were.
+pub record DiscardsGoing (k : ℕ) (found : List ℕ) (c d : Counts) : Type 0 where
+  pub done : DiscardsCounted k found c d
+  pub rest : (j : ℕ) → k ≤ j → get_or d.discarded j 0 ≡ get_or c.discarded j 0
 
 -- where no job was discarded nothing is to be counted
-discards_none : (n : ℕ) (found xs : List ℕ) → ((k : ℕ) → k < n → get_or found (32 + k) 0 ≡ 0) →
-    DiscardsCounted n found xs xs
-discards_none n found xs h =
-    record { long = refl; before = λ j l. refl; discarded = λ k l. omega (arith, h k l) }
+discards_none : (n : ℕ) (found : List ℕ) (c : Counts) → ((k : ℕ) → k < n → get_or found (32 + k) 0 ≡ 0) →
+    DiscardsCounted n found c c
+discards_none n found c h = record { only = refl; long = refl; discarded = λ k l. omega (arith, h k l) }
 
--- A place to which n is added, or another: b says which.
+-- A row to which n is added, or another: b says which.
 added_cell : (xs : List ℕ) (p n j : ℕ) (b : Bool) → (b ≡ true → p ≡ j) → (b ≡ false → p ≡ j → ⊥) → p < length xs →
     get_or (added xs p n) j 0 ≡ get_or xs j 0 + (if b then n else 0)
 added_cell xs p n j true f g l =
     set_at xs p (get_or xs p 0 + n) j l (f refl) ∙ ap (λ k. get_or xs k 0 + n) (f refl)
 added_cell xs p n j false f g l = set_past xs p (get_or xs p 0 + n) j (g refl) ∙ sym (add-zero (get_or xs j 0))
 
--- a is added to row s of the first column of w rows, b to that of the second
-module _ (w s a b : ℕ) (xs : List ℕ) (l : s < w) (m : w + s < length xs) where
-  first_column : (i : ℕ) → i < w →
-      get_or (added (added xs s a) (w + s) b) i 0 ≡ get_or xs i 0 + (if eqb s i then a else 0)
-  first_column i h =
-      set_past (added xs s a) (w + s) (get_or (added xs s a) (w + s) 0 + b) i (λ q. omega arith)
-      ∙ added_cell xs s a i (eqb s i) (eqb-true s i) (eqb-false s i) (omega arith)
-
-  second_column : (i : ℕ) →
-      get_or (added (added xs s a) (w + s) b) (w + i) 0 ≡ get_or xs (w + i) 0 + (if eqb s i then b else 0)
-  second_column i =
-      added_cell (added xs s a) (w + s) b (w + i) (eqb s i) (λ e. omega (arith, eqb-true s i e))
-      (λ e q. eqb-false s i e (omega arith)) (omega (arith, length-set xs s (get_or xs s 0 + a)))
-      ∙ ap (λ x. x + (if eqb s i then b else 0)) (set_past xs s (get_or xs s 0 + a) (w + i) (λ q. omega arith))
-
-  other_columns : (j : ℕ) → 2 * w ≤ j → get_or (added (added xs s a) (w + s) b) j 0 ≡ get_or xs j 0
-  other_columns j h =
-      others xs s (get_or xs s 0 + a) (w + s) (get_or (added xs s a) (w + s) 0 + b) j (λ q. omega arith) (λ q. omega arith)
-
-  columns_length : length (added (added xs s a) (w + s) b) ≡ length xs
-  columns_length =
-      length-set (added xs s a) (w + s) (get_or (added xs s a) (w + s) 0 + b) ∙ length-set xs s (get_or xs s 0 + a)
+added_row : (xs : List ℕ) (p n j : ℕ) → p < length xs → get_or (added xs p n) j 0 ≡ get_or xs j 0 + (if eqb p j then n else 0)
+added_row xs p n j l = added_cell xs p n j (eqb p j) (eqb-true p j) (eqb-false p j) l
 
 -- What is told of a taken tick, number by number.
 abbrev what_of : Turn → ℕ
@@ -332,7 +225,7 @@ cut_most Nobody k = omega arith
 cut_most (Done j) k = omega arith
 cut_most (Cut j) k = one_most j k
 
--- One tick more.
+-- One tick more: d is what stands when the rows are counted, e when all is.
 module _ (t : Table) (ms : List TakenTick) (m : TakenTick) where
   abbrev turn : Turn
   turn = m.answer.turn
@@ -340,132 +233,160 @@ module _ (t : Table) (ms : List TakenTick) (m : TakenTick) where
   abbrev left : Left
   left = m.answer.left
 
-  module _ {found xs ys : List ℕ} (few : t.nservers ≤ 32) (e : found ≡ found_values t m) (fits : TickFits t m)
-      (c : ServersCounted t ms xs)
-      (r : RowsCounted t.nservers (uncharged (what_of turn) (server_of turn) found)
-      (turn_counted (what_of turn) (server_of turn) xs) ys) where
-    abbrev server_row : ℕ
-    server_row = server_of turn
+  abbrev server_row : ℕ
+  server_row = server_of turn
 
+  abbrev task_row : ℕ
+  task_row = task_of left
+
+  abbrev mode_row : ℕ
+  mode_row = mode_value m.answer.mode
+
+  module _ {found : List ℕ} {c d e : Counts} (few : (t.nservers ≤ 32) × (t.ntasks ≤ 64)) (finds : found ≡ found_values t m)
+      (fits : TickFits t m)
+      (seen : (k : ℕ) → k < t.ntasks →
+      (get_or (uncharged (what_of turn) server_row found) (32 + k) 0 ≡ m.discarded k)
+      × (get_or (uncharged (what_of turn) server_row found) (32 + k) 0 ≤ 255))
+      (was : Counted t ms c)
+      (rows : RowsCounted t.nservers (uncharged (what_of turn) server_row found)
+      (turn_counted (what_of turn) server_row (record c { modes = added c.modes mode_row 1 })) d)
+      (gone : DiscardsCounted t.ntasks (uncharged (what_of turn) server_row found)
+      (left_counted (how_of left) task_row d) e) where
     abbrev charge : ℕ
     charge = one_if (not (eqb (what_of turn) 0))
 
     abbrev vacant : ℕ
     vacant = one_if (eqb (what_of turn) 1)
 
+    abbrev finish : ℕ
+    finish = one_if (eqb (how_of left) 1)
+
+    abbrev broken : ℕ
+    broken = one_if (eqb (how_of left) 2)
+
     server_low : server_row < 32
-    server_low = server_below t.nservers turn few fits.server
+    server_low = server_below t.nservers turn few.0 fits.server
 
-    server_room : 32 + server_row < length xs
-    server_room = omega (arith, server_low, c.long)
+    task_low : task_row < 64
+    task_low = task_below t.ntasks left few.1 fits.task
 
-    rows_were : (j : ℕ) → 64 ≤ j → get_or (turn_counted (what_of turn) server_row xs) j 0 ≡ get_or xs j 0
-    rows_were j l = other_columns 32 server_row charge vacant xs server_low server_room j l
+    -- which column became what
+    charged_is : e.charged ≡ added c.charged server_row charge
+    charged_is = ap (λ (x : Counts). x.charged) gone.only ∙ ap (λ (x : Counts). x.charged) rows.only
+
+    empty_is : e.empty ≡ added c.empty server_row vacant
+    empty_is = ap (λ (x : Counts). x.empty) gone.only ∙ ap (λ (x : Counts). x.empty) rows.only
+
+    row_is : e.row ≡ d.row
+    row_is = ap (λ (x : Counts). x.row) gone.only
+
+    longest_is : e.longest ≡ d.longest
+    longest_is = ap (λ (x : Counts). x.longest) gone.only
+
+    finished_is : e.finished ≡ added c.finished task_row finish
+    finished_is =
+        ap (λ (x : Counts). x.finished) gone.only ∙ ap (λ (x : Counts). added x.finished task_row finish) rows.only
+
+    cut_is : e.cut ≡ added c.cut task_row broken
+    cut_is = ap (λ (x : Counts). x.cut) gone.only ∙ ap (λ (x : Counts). added x.cut task_row broken) rows.only
+
+    modes_is : e.modes ≡ added c.modes mode_row 1
+    modes_is = ap (λ (x : Counts). x.modes) gone.only ∙ ap (λ (x : Counts). x.modes) rows.only
+
+    discarded_was : d.discarded ≡ c.discarded
+    discarded_was = ap (λ (x : Counts). x.discarded) rows.only
 
     -- a job of it waits
     waits_found : (i : ℕ) → i < t.nservers → ltb 0 (get_or found i 0) ≡ waits t m.found i
     waits_found i l =
-        ap (λ (x : List ℕ). ltb 0 (get_or x i 0)) e ∙ ap (ltb 0) (found_server t m i (omega arith)) ∙ fits.waits i l
+        ap (λ (x : List ℕ). ltb 0 (get_or x i 0)) finds ∙ ap (ltb 0) (found_server t m i (omega (arith, few.0))) ∙ fits.waits i l
 
-    row_then : (i : ℕ) → i < t.nservers → get_or ys (64 + i) 0 ≡ row_to (passed_over t i) 0 (ms ++ (m ∷ []))
+    row_then : (i : ℕ) → i < t.nservers → get_or d.row i 0 ≡ row_to (passed_over t i) 0 (ms ++ (m ∷ []))
     unfolding passed_over
     row_then i l =
-        r.row i l
-        ∙ ap (row_after (get_or (uncharged (what_of turn) server_row found) i 0))
-        (rows_were (64 + i) (omega arith) ∙ c.row i l)
-        ∙ row_told turn found i (row_to (passed_over t i) 0 ms) (omega (arith, server_low, ap length e, found_length t m))
+        rows.row i l
+        ∙ ap (row_after (get_or (uncharged (what_of turn) server_row found) i 0)) (was.row i l)
+        ∙ row_told turn found i (row_to (passed_over t i) 0 ms) (omega (arith, server_low, ap length finds, found_length t m))
         ∙ ap (λ (w : Bool). if w && eqb (charged turn i) 0 then suc (row_to (passed_over t i) 0 ms) else 0)
         (waits_found i l)
         ∙ sym (row_next (passed_over t i) 0 ms m)
 
-    servers_next : ServersCounted t (ms ++ (m ∷ [])) ys
-    servers_next =
+    discarded_then : (k : ℕ) → k < t.ntasks →
+        get_or e.discarded k 0 ≡ get_or c.discarded k 0 + get_or (uncharged (what_of turn) server_row found) (32 + k) 0
+    discarded_then k l =
+        gone.discarded k l
+        ∙ ap (λ (x : List ℕ). get_or x k 0 + get_or (uncharged (what_of turn) server_row found) (32 + k) 0) discarded_was
+
+    abbrev columns : Columns c
+    columns = was.columns
+
+    tick_next : Counted t (ms ++ (m ∷ [])) e
+    tick_next =
         record {
-          long = r.long ∙ columns_length 32 server_row charge vacant xs server_low server_room ∙ c.long;
+          columns =
+              record {
+                charged = ap length charged_is ∙ length-set c.charged server_row _ ∙ columns.charged;
+                empty = ap length empty_is ∙ length-set c.empty server_row _ ∙ columns.empty;
+                row = ap length row_is ∙ rows.long.0 ∙ columns.row;
+                longest = ap length longest_is ∙ rows.long.1 ∙ columns.longest;
+                finished = ap length finished_is ∙ length-set c.finished task_row _ ∙ columns.finished;
+                cut = ap length cut_is ∙ length-set c.cut task_row _ ∙ columns.cut;
+                discarded = gone.long ∙ ap length discarded_was ∙ columns.discarded;
+                modes = ap length modes_is ∙ length-set c.modes mode_row _ ∙ columns.modes;
+              };
           charged =
               λ i l.
-              r.before i (omega arith)
-              ∙ first_column 32 server_row charge vacant xs server_low server_room i (omega arith)
-              ∙ ap₂ ◌+◌ (c.charged i l) (turn_charged turn i)
+              ap (λ (x : List ℕ). get_or x i 0) charged_is
+              ∙ added_row c.charged server_row charge i (omega (arith, server_low, columns.charged))
+              ∙ ap₂ ◌+◌ (was.charged i l) (turn_charged turn i)
               ∙ sym (over_next (λ x. charged x.answer.turn i) ms m);
           empty =
               λ i l.
-              r.before (32 + i) (omega arith)
-              ∙ second_column 32 server_row charge vacant xs server_low server_room i
-              ∙ ap₂ ◌+◌ (c.empty i l) (turn_empty turn i)
+              ap (λ (x : List ℕ). get_or x i 0) empty_is
+              ∙ added_row c.empty server_row vacant i (omega (arith, server_low, columns.empty))
+              ∙ ap₂ ◌+◌ (was.empty i l) (turn_empty turn i)
               ∙ sym (over_next (λ x. empty_turn x.answer.turn i) ms m);
-          row = row_then;
+          row = λ i l. ap (λ (x : List ℕ). get_or x i 0) row_is ∙ row_then i l;
           longest =
               λ i l.
-              r.longest i l
-              ∙ ap₂ larger (rows_were (96 + i) (omega arith) ∙ c.longest i l) (row_then i l)
+              ap (λ (x : List ℕ). get_or x i 0) longest_is
+              ∙ rows.longest i l
+              ∙ ap₂ larger (was.longest i l) (row_then i l)
               ∙ sym (longest_next (passed_over t i) ms m);
-        }
-
-  module _ {found xs ys : List ℕ} (few : t.ntasks ≤ 64) (fits : TickFits t m)
-      (seen : (k : ℕ) → k < t.ntasks → (get_or found (32 + k) 0 ≡ m.discarded k) × (get_or found (32 + k) 0 ≤ 255))
-      (c : TasksCounted t ms xs)
-      (r : DiscardsCounted t.ntasks found (left_counted (how_of left) (task_of left) xs) ys) where
-    abbrev task_row : ℕ
-    task_row = task_of left
-
-    abbrev done : ℕ
-    done = one_if (eqb (how_of left) 1)
-
-    abbrev gone : ℕ
-    gone = one_if (eqb (how_of left) 2)
-
-    task_low : task_row < 64
-    task_low = task_below t.ntasks left few fits.task
-
-    task_room : 64 + task_row < length xs
-    task_room = omega (arith, task_low, c.long)
-
-    discards_were : (k : ℕ) → get_or (left_counted (how_of left) task_row xs) (128 + k) 0 ≡ get_or xs (128 + k) 0
-    discards_were k = other_columns 64 task_row done gone xs task_low task_room (128 + k) (omega arith)
-
-    tasks_next : TasksCounted t (ms ++ (m ∷ [])) ys
-    tasks_next =
-        record {
-          long = r.long ∙ columns_length 64 task_row done gone xs task_low task_room ∙ c.long;
           finished =
               λ k l.
-              r.before k (omega arith)
-              ∙ first_column 64 task_row done gone xs task_low task_room k (omega arith)
-              ∙ ap₂ ◌+◌ (c.finished k l) (left_finished left k)
+              ap (λ (x : List ℕ). get_or x k 0) finished_is
+              ∙ added_row c.finished task_row finish k (omega (arith, task_low, columns.finished))
+              ∙ ap₂ ◌+◌ (was.finished k l) (left_finished left k)
               ∙ sym (over_next (λ x. finished_by x.answer.left k) ms m);
           cut =
               λ k l.
-              r.before (64 + k) (omega arith)
-              ∙ second_column 64 task_row done gone xs task_low task_room k
-              ∙ ap₂ ◌+◌ (c.cut k l) (left_cut left k)
+              ap (λ (x : List ℕ). get_or x k 0) cut_is
+              ∙ added_row c.cut task_row broken k (omega (arith, task_low, columns.cut))
+              ∙ ap₂ ◌+◌ (was.cut k l) (left_cut left k)
               ∙ sym (over_next (λ x. cut_by x.answer.left k) ms m);
           discarded =
               λ k l.
-              r.discarded k l
-              ∙ ap₂ ◌+◌ (discards_were k ∙ c.discarded k l) (seen k l).0
+              discarded_then k l
+              ∙ ap₂ ◌+◌ (was.discarded k l) (seen k l).0
               ∙ sym (over_next (λ x. x.discarded k) ms m);
           small =
-              λ k l.
-              omega (arith, r.discarded k l, discards_were k, c.small k l, (seen k l).1, length-append ms (m ∷ []));
+              λ k l. omega (arith, discarded_then k l, was.small k l, (seen k l).1, length-append ms (m ∷ []));
+          modes = λ x.
+              ap (λ (y : List ℕ). get_or y (mode_value x) 0) modes_is
+              ∙ added_cell c.modes mode_row 1 (mode_value x) (eqb (mode_value x) mode_row)
+              (λ q. sym (eqb-true (mode_value x) mode_row q))
+              (λ q p. eqb-false (mode_value x) mode_row q (sym p)) (omega (arith, mode_below m.answer.mode, columns.modes))
+              ∙ ap (λ n. n + in_this_mode x m.answer.mode) (was.modes x)
+              ∙ sym (over_next (λ y. in_this_mode x y.answer.mode) ms m);
         }
 
-  modes_next : (xs : List ℕ) → ModesCounted ms xs →
-      ModesCounted (ms ++ (m ∷ [])) (added xs (mode_value m.answer.mode) 1)
-  modes_next xs c =
-      let p = mode_value m.answer.mode in
-      record {
-        long = length-set xs p (get_or xs p 0 + 1) ∙ c.long;
-        ticks = λ x.
-            added_cell xs p 1 (mode_value x) (eqb (mode_value x) p) (λ e. sym (eqb-true (mode_value x) p e))
-            (λ e q. eqb-false (mode_value x) p e (sym q)) (omega (arith, mode_below m.answer.mode, c.long))
-            ∙ ap (λ n. n + in_this_mode x m.answer.mode) (c.ticks x)
-            ∙ sym (over_next (λ y. in_this_mode x y.answer.mode) ms m);
-      }
-
 -- A tick handed in: what each function that counts a part of it asks for, and what all of them leave.
-module _ {t : Table} {ms : List TakenTick} {m : TakenTick} {nservers ntasks : ℕ} {told found xs ys zs : List ℕ}
-    (h : TickHanded t ms m nservers ntasks told found xs ys zs) where
+module _ {t : Table} {ms : List TakenTick} {m : TakenTick} {nservers ntasks : ℕ} {told found : List ℕ} {c : Counts}
+    (h : TickHanded t ms m nservers ntasks told found c) where
+  abbrev mode : ℕ
+  mode = get_or told 2 0
+
   abbrev what : ℕ
   what = get_or told 3 0
 
@@ -484,9 +405,6 @@ module _ {t : Table} {ms : List TakenTick} {m : TakenTick} {nservers ntasks : �
   abbrev says : Tells m.answer told
   says = tells m.answer told h.tells
 
-  pub told_has : (j : ℕ) → j < 9 → j < length told
-  told_has j l = omega (arith, says.long)
-
   found_long : length found ≡ 96
   found_long = ap length h.finds ∙ found_length t m
 
@@ -494,19 +412,18 @@ module _ {t : Table} {ms : List TakenTick} {m : TakenTick} {nservers ntasks : �
   few_counted : {x : ℕ} (f : TakenTick → ℕ) → ((y : TakenTick) → f y ≤ 1) → x ≡ over_ticks f ms → x < 4000000000
   few_counted f most e = omega (arith, over_most f ms most, h.within)
 
-  pub mode_ready : (get_or told 2 0 < 3) × (get_or zs (get_or told 2 0) 0 < 4000000000)
+  pub mode_ready : (mode < 3) × (get_or c.modes mode 0 < 4000000000)
   mode_ready =
       let x = m.answer.mode in
       rw says.mode (
         mode_below x,
         few_counted (λ y. in_this_mode x y.answer.mode) (λ y. one_most (mode_value x) (mode_value y.answer.mode))
-            (h.counted.modes.ticks x),
+            (h.counted.modes x),
       )
 
-  pub turn_ready : (server < 32) × (length found ≡ 96) × (not (eqb what 0) ≡ true → get_or xs server 0 < 4294967295) ×
-      (eqb what 1 ≡ true → get_or xs (32 + server) 0 < 4294967295)
+  pub turn_ready : (server < 32) × (length found ≡ 96) × (not (eqb what 0) ≡ true → get_or c.charged server 0 < 4294967295) ×
+      (eqb what 1 ≡ true → get_or c.empty server 0 < 4294967295)
   turn_ready =
-      let c = h.counted.servers in
       let u = m.answer.turn in
       let s = server_of u in
       let b = h.fits.server in
@@ -514,64 +431,47 @@ module _ {t : Table} {ms : List TakenTick} {m : TakenTick} {nservers ntasks : �
         server_below t.nservers u (omega (arith, h.rows.0, h.few.0)) b,
         found_long,
         λ e.
-            let l = c.charged s (charged_below t.nservers u b e) in
+            let l = h.counted.charged s (charged_below t.nservers u b e) in
             omega (arith, few_counted (λ y. charged y.answer.turn s) (λ y. charged_le y.answer.turn s) l),
         λ e.
-            let l = c.empty s (empty_below t.nservers u b e) in
+            let l = h.counted.empty s (empty_below t.nservers u b e) in
             omega (arith, few_counted (λ y. empty_turn y.answer.turn s) (λ y. empty_most y.answer.turn s) l),
       )
 
-  pub rows_ready : {found' xs' : List ℕ} → found' ≡ seen → xs' ≡ turn_counted what server xs →
-      (nservers ≤ 32) × (length found' ≡ 96) × (length xs' ≡ 128) ×
-      ((i : ℕ) → i < nservers → get_or xs' (64 + i) 0 < 4294967295)
+  pub rows_ready : {found' row : List ℕ} → found' ≡ seen → row ≡ c.row →
+      (nservers ≤ 32) × (length found' ≡ 96) × ((i : ℕ) → i < nservers → get_or row i 0 < 4294967295)
   rows_ready e f =
-      let c = h.counted.servers in
-      let a = one_if (not (eqb what 0)) in
-      let b = one_if (eqb what 1) in
-      let l = turn_ready.0 in
-      let n : 32 + server < length xs = omega (arith, c.long, l) in
       rw (e, f) (
         h.few.0,
         length-set found server _ ∙ found_long,
-        columns_length 32 server a b xs l n ∙ c.long,
-        λ i k.
-            let was = other_columns 32 server a b xs l n (64 + i) (omega arith) in
-            omega (arith, was, c.row i (omega (arith, h.rows.0)), row_most (passed_over t i) ms, h.within),
+        λ i k. omega (arith, h.counted.row i (omega (arith, h.rows.0)), row_most (passed_over t i) ms, h.within),
       )
 
-  pub left_ready : (task < 64) × (eqb how 1 ≡ true → get_or ys task 0 < 18446744073709551615) ×
-      (eqb how 2 ≡ true → get_or ys (64 + task) 0 < 18446744073709551615)
-  left_ready =
-      let c = h.counted.tasks in
+  pub left_ready : {finished cut : List ℕ} → finished ≡ c.finished → cut ≡ c.cut →
+      (task < 64) × (eqb how 1 ≡ true → get_or finished task 0 < 18446744073709551615) ×
+      (eqb how 2 ≡ true → get_or cut task 0 < 18446744073709551615)
+  left_ready p q =
       let d = m.answer.left in
       let k = task_of d in
       let b = h.fits.task in
-      rw (says.how, says.task) (
+      rw (p, q, says.how, says.task) (
         task_below t.ntasks d (omega (arith, h.rows.1, h.few.1)) b,
         λ e.
-            let l = c.finished k (finished_below t.ntasks d b e) in
+            let l = h.counted.finished k (finished_below t.ntasks d b e) in
             omega (arith, few_counted (λ y. finished_by y.answer.left k) (λ y. finished_most y.answer.left k) l),
         λ e.
-            let l = c.cut k (cut_below t.ntasks d b e) in
+            let l = h.counted.cut k (cut_below t.ntasks d b e) in
             omega (arith, few_counted (λ y. cut_by y.answer.left k) (λ y. cut_most y.answer.left k) l),
       )
 
-  pub discards_ready : {found' ys' : List ℕ} → found' ≡ seen → ys' ≡ left_counted how task ys →
-      (ntasks ≤ 64) × (length found' ≡ 96) × (length ys' ≡ 192) ×
-      ((k : ℕ) → k < ntasks → get_or ys' (128 + k) 0 + 255 < 18446744073709551616)
+  pub discards_ready : {found' discarded : List ℕ} → found' ≡ seen → discarded ≡ c.discarded →
+      (ntasks ≤ 64) × (length found' ≡ 96) ×
+      ((k : ℕ) → k < ntasks → get_or discarded k 0 + 255 < 18446744073709551616)
   discards_ready e f =
-      let c = h.counted.tasks in
-      let a = one_if (eqb how 1) in
-      let b = one_if (eqb how 2) in
-      let l = left_ready.0 in
-      let n : 64 + task < length ys = omega (arith, c.long, l) in
       rw (e, f) (
         h.few.1,
         length-set found server _ ∙ found_long,
-        columns_length 64 task a b ys l n ∙ c.long,
-        λ k i.
-            let was = other_columns 64 task a b ys l n (128 + k) (omega arith) in
-            omega (arith, was, c.small k (omega (arith, h.rows.1)), h.within),
+        λ k i. omega (arith, h.counted.small k (omega (arith, h.rows.1)), h.within),
       )
 
   -- what step 2 discarded of a task
@@ -581,30 +481,27 @@ module _ {t : Table} {ms : List TakenTick} {m : TakenTick} {nservers ntasks : �
       ∙ ap (λ (x : List ℕ). get_or x (32 + k) 0) h.finds
       ∙ found_task t m k l (omega (arith, h.rows.1, h.few.1))
 
-  -- the arrays after each of them
-  module _ {found' xs' ys' : List ℕ} (e : found' ≡ seen) (f : xs' ≡ turn_counted what server xs)
-      (g : ys' ≡ left_counted how task ys) where
-    pub nothing_discarded : get_or told 8 0 ≤ 0 → DiscardsCounted ntasks found' ys' ys'
-    nothing_discarded z =
-        discards_none ntasks found' ys'
-        (λ k l.
-        let b : k < t.ntasks = omega (arith, h.rows.1) in
-        ap (λ (x : List ℕ). get_or x (32 + k) 0) e
-        ∙ omega (arith, seen_task k b, sum_part m.discarded t.ntasks k b, h.fits.counted, says.discarded))
+  pub nothing_discarded : {found' : List ℕ} (d : Counts) → found' ≡ seen → get_or told 8 0 ≤ 0 → DiscardsCounted ntasks found' d d
+  nothing_discarded {found'} d e z =
+      discards_none ntasks found' d
+      (λ k l.
+      let b : k < t.ntasks = omega (arith, h.rows.1) in
+      ap (λ (x : List ℕ). get_or x (32 + k) 0) e
+      ∙ omega (arith, seen_task k b, sum_part m.discarded t.ntasks k b, h.fits.counted, says.discarded))
 
-    pub tick_counted : {xs'' ys'' : List ℕ} → ((k : ℕ) → get_or found' k 0 < 256) → RowsCounted nservers found' xs' xs'' →
-        DiscardsCounted ntasks found' ys' ys'' → Counted t (ms ++ (m ∷ [])) xs'' ys'' (added zs (get_or told 2 0) 1)
-    tick_counted bytes r d =
-        record {
-          servers =
-              servers_next t ms m (omega (arith, h.rows.0, h.few.0)) h.finds h.fits h.counted.servers
-              (rw (h.rows.0, e, f, says.what, says.server) at r);
-          tasks =
-              tasks_next t ms m (omega (arith, h.rows.1, h.few.1)) h.fits
-              (λ k l. (ap (λ (x : List ℕ). get_or x (32 + k) 0) e ∙ seen_task k l, omega (arith, bytes (32 + k))))
-              h.counted.tasks (rw (h.rows.1, g, says.how, says.task) at d);
-          modes = rw says.mode (modes_next t ms m zs h.counted.modes);
-        }
+  -- all of it counted
+  pub tick_counted : {found' : List ℕ} {d e : Counts} → found' ≡ seen → ((k : ℕ) → get_or found' k 0 < 256) →
+      RowsCounted nservers found' (turn_counted what server (record c { modes = added c.modes mode 1 })) d →
+      DiscardsCounted ntasks found' (left_counted how task d) e → Counted t (ms ++ (m ∷ [])) e
+  tick_counted p bytes r g =
+      let b : (k : ℕ) → get_or seen k 0 < 256 = rw p at bytes in
+      let v : (k : ℕ) → k < t.ntasks → (get_or seen (32 + k) 0 ≡ m.discarded k) × (get_or seen (32 + k) 0 ≤ 255) =
+      λ k l. (seen_task k l, omega (arith, b (32 + k))) in
+      tick_next t ms m (omega (arith, h.rows.0, h.few.0), omega (arith, h.rows.1, h.few.1)) h.finds h.fits
+      (rw (says.what, says.server) at v)
+      h.counted
+      (rw (h.rows.0, p, says.what, says.server, says.mode) at r)
+      (rw (h.rows.1, p, says.what, says.server, says.how, says.task) at g)
 
 -- Many ticks handed in. The first of them stands at the front of what was told and found.
 front : (a b : ℕ) (xs ys zs : List ℕ) → length ys ≡ a → take (a + b) xs ≡ ys ++ zs →
@@ -618,8 +515,7 @@ front a b xs ys zs l e =
     )
 
 module _ {t : Table} {ms : List TakenTick} {m : TakenTick} {new : List TakenTick} {nservers ntasks n : ℕ}
-    {told found xs ys zs : List ℕ}
-    (h : TicksHanded t ms (m ∷ new) nservers ntasks (suc n) told found xs ys zs) where
+    {told found : List ℕ} {c : Counts} (h : TicksHanded t ms (m ∷ new) nservers ntasks (suc n) told found c) where
   told_front : (take 9 told ≡ told_values (Ticked m.answer)) × (take (9 * n) (drop 9 told) ≡ all_told new)
   unfolding all_told
   told_front =
@@ -635,7 +531,7 @@ module _ {t : Table} {ms : List TakenTick} {m : TakenTick} {new : List TakenTick
       (ap (λ k. take k found) e ∙ h.finds)
 
   pub first_handed : (a b : ℕ) → a ≡ 9 → b ≡ 96 →
-      TickHanded t ms m nservers ntasks (take a told) (take b found) xs ys zs
+      TickHanded t ms m nservers ntasks (take a told) (take b found) c
   first_handed a b e f =
       rw (e, f)
       (record {
@@ -648,10 +544,9 @@ module _ {t : Table} {ms : List TakenTick} {m : TakenTick} {new : List TakenTick
         within = omega (arith, h.within);
       })
 
-  rest_handed : (told' found' xs' ys' zs' : List ℕ) → told' ≡ drop 9 told → found' ≡ drop 96 found →
-      Counted t (ms ++ (m ∷ [])) xs' ys' zs' →
-      TicksHanded t (ms ++ (m ∷ [])) new nservers ntasks n told' found' xs' ys' zs'
-  rest_handed told' found' xs' ys' zs' e f c =
+  rest_handed : (told' found' : List ℕ) (d : Counts) → told' ≡ drop 9 told → found' ≡ drop 96 found →
+      Counted t (ms ++ (m ∷ [])) d → TicksHanded t (ms ++ (m ∷ [])) new nservers ntasks n told' found' d
+  rest_handed told' found' d e f k =
       rw (e, f)
       (record {
         rows = h.rows;
@@ -662,55 +557,55 @@ module _ {t : Table} {ms : List TakenTick} {m : TakenTick} {new : List TakenTick
         finds = found_front.1;
         found_long = omega (arith, length-drop 96 found, h.found_long);
         fits = h.fits.1;
-        counted = c;
+        counted = k;
         within = omega (arith, h.within, length-append ms (m ∷ []));
       })
 
 -- Some are counted, others are left, and together they are all.
 pub record TicksLeft (t : Table) (all : List TakenTick) (nservers ntasks n : ℕ)
-    (told found xs ys zs : List ℕ) : Type 0 where
+    (told found : List ℕ) (c : Counts) : Type 0 where
   pub done : List TakenTick
   pub left : List TakenTick
-  pub handed : TicksHanded t done left nservers ntasks n told found xs ys zs
+  pub handed : TicksHanded t done left nservers ntasks n told found c
   pub together : done ++ left ≡ all
 
 -- the same where a tick is left
 pub record TickLeft (t : Table) (all : List TakenTick) (nservers ntasks n : ℕ)
-    (told found xs ys zs : List ℕ) : Type 0 where
+    (told found : List ℕ) (c : Counts) : Type 0 where
   pub done : List TakenTick
   pub tick : TakenTick
   pub rest : List TakenTick
-  pub handed : TicksHanded t done (tick ∷ rest) nservers ntasks (suc n) told found xs ys zs
+  pub handed : TicksHanded t done (tick ∷ rest) nservers ntasks (suc n) told found c
   pub together : done ++ (tick ∷ rest) ≡ all
 
-module _ {t : Table} {all : List TakenTick} {nservers ntasks : ℕ} {told found xs ys zs : List ℕ} where
-  pub none_left : TicksLeft t all nservers ntasks 0 told found xs ys zs → Counted t all xs ys zs
+module _ {t : Table} {all : List TakenTick} {nservers ntasks : ℕ} {told found : List ℕ} {c : Counts} where
+  pub none_left : TicksLeft t all nservers ntasks 0 told found c → Counted t all c
   none_left g = go g.left g.handed g.together
     where
-      go : (left : List TakenTick) → TicksHanded t g.done left nservers ntasks 0 told found xs ys zs →
-          g.done ++ left ≡ all → Counted t all xs ys zs
+      go : (left : List TakenTick) → TicksHanded t g.done left nservers ntasks 0 told found c →
+          g.done ++ left ≡ all → Counted t all c
       go [] h e = rw (← e, append-nil g.done) h.counted
       go (m ∷ new) h e = absurd (omega (arith, h.many))
 
-  pub one_left : (k : ℕ) {n : ℕ} → k ≡ suc n → TicksLeft t all nservers ntasks k told found xs ys zs →
-      TickLeft t all nservers ntasks n told found xs ys zs
+  pub one_left : (k : ℕ) {n : ℕ} → k ≡ suc n → TicksLeft t all nservers ntasks k told found c →
+      TickLeft t all nservers ntasks n told found c
   one_left k {n} q g = go g.left (rw q at g.handed) g.together
     where
-      go : (left : List TakenTick) → TicksHanded t g.done left nservers ntasks (suc n) told found xs ys zs →
-          g.done ++ left ≡ all → TickLeft t all nservers ntasks n told found xs ys zs
+      go : (left : List TakenTick) → TicksHanded t g.done left nservers ntasks (suc n) told found c →
+          g.done ++ left ≡ all → TickLeft t all nservers ntasks n told found c
       go [] h e = absurd (omega (arith, h.many))
       go (m ∷ new) h e = record { done = g.done; tick = m; rest = new; handed = h; together = e }
 
-  pub rest_left : {n : ℕ} (g : TickLeft t all nservers ntasks n told found xs ys zs)
-      {told' found' xs' ys' zs' : List ℕ} →
-      told' ≡ drop 9 told → found' ≡ drop 96 found → Counted t (g.done ++ (g.tick ∷ [])) xs' ys' zs' →
-      TicksLeft t all nservers ntasks n told' found' xs' ys' zs'
-  rest_left {n} g {told'} {found'} {xs'} {ys'} {zs'} e f c =
+  pub rest_left : {n : ℕ} (g : TickLeft t all nservers ntasks n told found c)
+      {told' found' : List ℕ} {d : Counts} →
+      told' ≡ drop 9 told → found' ≡ drop 96 found → Counted t (g.done ++ (g.tick ∷ [])) d →
+      TicksLeft t all nservers ntasks n told' found' d
+  rest_left {n} g {told'} {found'} {d} e f k =
       record {
         done = g.done ++ (g.tick ∷ []);
         left = g.rest;
         handed =
-            rest_handed g.handed told' found' xs' ys' zs' e f c;
+            rest_handed g.handed told' found' d e f k;
         together = append_assoc g.done (g.tick ∷ []) g.rest ∙ g.together;
       }
 

@@ -6,7 +6,6 @@ use mathlib.Core.List.{List, [], ◌∷◌, ◌++◌, append_assoc}
 use Prim.Native.Nat.{ℕ, zero, suc, ◌+◌, ◌≤◌, ◌^◌, ◌<◌}
 use native.Mathlib.Omega.{arith}
 use native.Mathlib.Numerals.{add-one}
-use native.Mathlib.Nat.{zero-add}
 use lib.ListN.{length, get_or, take, length-append}
 use Rattle.laws.specs.Quoted.{bytes}
 use Rattle.decimal.specs.Number.{digits}
@@ -17,6 +16,7 @@ use Rattle.decimal.proofs.Lines.{AllUpTo, join_length, closed_append}
 use Rattle.decimal.proofs.Room.{put_none, put_as, put_more, put_front, put_lines}
 use Rattle.lines.specs.AnswerLine.{printed}
 use Rattle.morning.specs.Page.{row_lines, page_lines}
+use Rattle.report.specs.declared.count.Counts.{Counts}
 use Rattle.report.specs.Inner.Page.{FieldPut, LinesPut, server_line_in, task_line_in}
 use Rattle.report.specs.Inner.Page.{server_lines_in, task_lines_in, mode_lines_in, page_in, longest_page}
 
@@ -90,39 +90,37 @@ rows_many line zero = refl
 rows_many line (suc n) = omega (arith, length-append (row_lines line n) (line n ∷ []), rows_many line n)
 
 -- the lines of a server, a task and a mode
-pub server_put : (xs : List ℕ) (i : ℕ) {d : List ℕ} {at : ℕ} {e1 : List ℕ} {k1 : ℕ} {e2 : List ℕ} {k2 : ℕ}
+pub server_put : (c : Counts) (i : ℕ) {d : List ℕ} {at : ℕ} {e1 : List ℕ} {k1 : ℕ} {e2 : List ℕ} {k2 : ℕ}
     {e3 : List ℕ} {k3 : ℕ} {e4 : List ℕ} {k4 : ℕ} {e5 : List ℕ} {k5 : ℕ} {e6 : List ℕ} {k6 : ℕ} →
     Put (bytes "server") d at e1 k1 → FieldPut i e1 k1 e2 k2 →
-    FieldPut (get_or xs (0 + i) 0) e2 k2 e3 k3 → FieldPut (get_or xs (32 + i) 0) e3 k3 e4 k4 →
-    FieldPut (get_or xs (96 + i) 0) e4 k4 e5 k5 → Put (line_feed ∷ []) e5 k5 e6 k6 →
-    LinesPut (server_line_in xs i ∷ []) d at e6 k6
-server_put xs i w f1 f2 f3 f4 l =
-    let c = digits (get_or xs i 0) in
-    let e = digits (get_or xs (32 + i) 0) in
-    let g = digits (get_or xs (96 + i) 0) in
-    let f2 = rw (zero-add i) at f2 in
-    line_put (bytes "server") (digits i ∷ c ∷ e ∷ g ∷ [])
+    FieldPut (get_or c.charged i 0) e2 k2 e3 k3 → FieldPut (get_or c.empty i 0) e3 k3 e4 k4 →
+    FieldPut (get_or c.longest i 0) e4 k4 e5 k5 → Put (line_feed ∷ []) e5 k5 e6 k6 →
+    LinesPut (server_line_in c i ∷ []) d at e6 k6
+server_put c i w f1 f2 f3 f4 l =
+    let x = digits (get_or c.charged i 0) in
+    let y = digits (get_or c.empty i 0) in
+    let z = digits (get_or c.longest i 0) in
+    line_put (bytes "server") (digits i ∷ x ∷ y ∷ z ∷ [])
     (omega arith, (f1.short, (f2.short, (f3.short, (f4.short, tt))))) (omega arith) w
-    (after_put (digits i) (c ∷ e ∷ g ∷ []) f1.put
-    (after_put c (e ∷ g ∷ []) f2.put (after_put e (g ∷ []) f3.put (after_put g [] f4.put l))))
+    (after_put (digits i) (x ∷ y ∷ z ∷ []) f1.put
+    (after_put x (y ∷ z ∷ []) f2.put (after_put y (z ∷ []) f3.put (after_put z [] f4.put l))))
 
-pub task_put : (xs waiting : List ℕ) (i : ℕ) {d : List ℕ} {at : ℕ} {e1 : List ℕ} {k1 : ℕ} {e2 : List ℕ} {k2 : ℕ}
+pub task_put : (c : Counts) (waiting : List ℕ) (i : ℕ) {d : List ℕ} {at : ℕ} {e1 : List ℕ} {k1 : ℕ} {e2 : List ℕ} {k2 : ℕ}
     {e3 : List ℕ} {k3 : ℕ} {e4 : List ℕ} {k4 : ℕ} {e5 : List ℕ} {k5 : ℕ} {e6 : List ℕ} {k6 : ℕ} {e7 : List ℕ} {k7 : ℕ} →
     Put (bytes "task") d at e1 k1 → FieldPut i e1 k1 e2 k2 →
-    FieldPut (get_or xs (0 + i) 0) e2 k2 e3 k3 → FieldPut (get_or xs (64 + i) 0) e3 k3 e4 k4 →
-    FieldPut (get_or xs (128 + i) 0) e4 k4 e5 k5 → FieldPut (get_or waiting i 0) e5 k5 e6 k6 →
-    Put (line_feed ∷ []) e6 k6 e7 k7 → LinesPut (task_line_in xs waiting i ∷ []) d at e7 k7
-task_put xs waiting i w f1 f2 f3 f4 f5 l =
-    let c = digits (get_or xs i 0) in
-    let e = digits (get_or xs (64 + i) 0) in
-    let g = digits (get_or xs (128 + i) 0) in
+    FieldPut (get_or c.finished i 0) e2 k2 e3 k3 → FieldPut (get_or c.cut i 0) e3 k3 e4 k4 →
+    FieldPut (get_or c.discarded i 0) e4 k4 e5 k5 → FieldPut (get_or waiting i 0) e5 k5 e6 k6 →
+    Put (line_feed ∷ []) e6 k6 e7 k7 → LinesPut (task_line_in c waiting i ∷ []) d at e7 k7
+task_put c waiting i w f1 f2 f3 f4 f5 l =
+    let x = digits (get_or c.finished i 0) in
+    let y = digits (get_or c.cut i 0) in
+    let z = digits (get_or c.discarded i 0) in
     let h = digits (get_or waiting i 0) in
-    let f2 = rw (zero-add i) at f2 in
-    line_put (bytes "task") (digits i ∷ c ∷ e ∷ g ∷ h ∷ [])
+    line_put (bytes "task") (digits i ∷ x ∷ y ∷ z ∷ h ∷ [])
     (omega arith, (f1.short, (f2.short, (f3.short, (f4.short, (f5.short, tt)))))) (omega arith) w
-    (after_put (digits i) (c ∷ e ∷ g ∷ h ∷ []) f1.put
-    (after_put c (e ∷ g ∷ h ∷ []) f2.put
-    (after_put e (g ∷ h ∷ []) f3.put (after_put g (h ∷ []) f4.put (after_put h [] f5.put l)))))
+    (after_put (digits i) (x ∷ y ∷ z ∷ h ∷ []) f1.put
+    (after_put x (y ∷ z ∷ h ∷ []) f2.put
+    (after_put y (z ∷ h ∷ []) f3.put (after_put z (h ∷ []) f4.put (after_put h [] f5.put l)))))
 
 pub mode_put : (word : List ℕ) (x : ℕ) {d : List ℕ} {at : ℕ} {e1 : List ℕ} {k1 : ℕ} {e2 : List ℕ} {k2 : ℕ}
     {e3 : List ℕ} {k3 : ℕ} {e4 : List ℕ} {k4 : ℕ} {e5 : List ℕ} {k5 : ℕ} →
@@ -134,16 +132,15 @@ mode_put word x h w t p f l =
     (after_put word (digits x ∷ []) (put_more (tab ∷ []) word t p) (after_put (digits x) [] f.put l))
 
 -- the page stands at the front of the room, whole
-pub page_put : (nservers ntasks : ℕ) (xs ys waiting zs : List ℕ) {d : List ℕ} {e1 : List ℕ} {k1 : ℕ} {e2 : List ℕ}
+pub page_put : (nservers ntasks : ℕ) (c : Counts) (waiting : List ℕ) {d : List ℕ} {e1 : List ℕ} {k1 : ℕ} {e2 : List ℕ}
     {k2 : ℕ} {e3 : List ℕ} {r : ℕ} → nservers ≤ 32 → ntasks ≤ 64 → longest_page ≤ length d →
-    LinesPut (server_lines_in nservers xs) d 0 e1 k1 → LinesPut (task_lines_in ntasks ys waiting) e1 k1 e2 k2 →
-    LinesPut (mode_lines_in zs) e2 k2 e3 r →
-    take r e3 ≡ closed (page_in nservers ntasks xs ys waiting zs)
+    LinesPut (server_lines_in nservers c) d 0 e1 k1 → LinesPut (task_lines_in ntasks c waiting) e1 k1 e2 k2 →
+    LinesPut (mode_lines_in c.modes) e2 k2 e3 r → take r e3 ≡ closed (page_in nservers ntasks c waiting)
 unfolding page_lines
-page_put nservers ntasks xs ys waiting zs {d = d} hs ht long p q m =
-    let ss = server_lines_in nservers xs in
-    let ts = task_lines_in ntasks ys waiting in
-    let ms = mode_lines_in zs in
+page_put nservers ntasks c waiting {d = d} hs ht long p q m =
+    let ss = server_lines_in nservers c in
+    let ts = task_lines_in ntasks c waiting in
+    let ms = mode_lines_in c.modes in
     let all = lines_put ss (ts ++ ms) p (lines_put ts ms q m) in
     let page = closed (ss ++ (ts ++ ms)) in
     let few : length (ss ++ (ts ++ ms)) ≤ 99 =
@@ -151,7 +148,7 @@ page_put nservers ntasks xs ys waiting zs {d = d} hs ht long p q m =
       arith,
       length-append ss (ts ++ ms),
       length-append ts ms,
-      rows_many (server_line_in xs) nservers,
-      rows_many (task_line_in ys waiting) ntasks,
+      rows_many (server_line_in c) nservers,
+      rows_many (task_line_in c waiting) ntasks,
     ) in
     put_front page (omega (arith, all.short)) all.put

@@ -7,12 +7,4 @@ pub loop-preserved : goal.loop-preserved
 loop-preserved g c =
     let a = c.args in
     let l = c.loop in
-    some_then (standing a.n a.servers.now a.tasks.now a.modes.now) (standing l.m l.servers l.tasks l.modes) l.invariant
-    c.next-m.ensures.reads
-
-pub returns-then-not-m : goal.returns-then-not-m
-returns-then-not-m g c =
-    let a = c.args in
-    let l = c.loop in
-    some_then (standing a.n a.servers.now a.tasks.now a.modes.now) (standing l.m l.servers l.tasks l.modes) l.invariant
-    c.next-m.ensures.reads
+    some_then (standing a.n a.counts.now) (standing l.m l.counts) l.invariant c.next-m.ensures

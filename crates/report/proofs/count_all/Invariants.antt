@@ -4,5 +4,4 @@ use Rattle.report.proofs.count_all.Given as goal
 
 abbrev pub invariant-loop : goal.invariant-loop
 invariant-loop g l =
-    ReadsSome (standing l.initial.m l.initial.servers l.initial.tasks l.initial.modes)
-    (standing l.m l.servers l.tasks l.modes)
+    ReadsSome (standing l.initial.m l.initial.counts) (standing l.m l.counts)

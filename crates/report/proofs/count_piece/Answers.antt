@@ -9,12 +9,12 @@ use Rattle.report.proofs.count_piece.Goals.{After-cut_lines-c}
 
 -- what stands before the piece, and before a batch
 abbrev stands : After-cut_lines-c → Stand
-stands c = standing c.args.n c.args.servers.now c.args.tasks.now c.args.modes.now
+stands c = standing c.args.n c.args.counts.now
 
 abbrev before_batch : After-cut_lines-c → Stand
 before_batch c =
     let l = c.loop-at in
-    record { run = l.run; held = l.held; servers = l.servers; tasks = l.tasks; modes = l.modes }
+    record { run = l.run; held = l.held; counts = l.counts }
 
 abbrev lent : After-cut_lines-c → List ℕ
 lent c = c.cut_lines-c.new.lines
@@ -40,8 +40,8 @@ overflow_mul-values c = omega (arith, batch_few (cutting (goal.at.overflow_mul-v
 pub slice_bounds-values-end : goal.slice_bounds-values-end
 slice_bounds-values-end c = front (goal.at.slice_bounds-values-end c).After-cut_lines-c
 
-pub slice_bounds-find_many-end : goal.slice_bounds-find_many-end
-slice_bounds-find_many-end c = sym (length-take-le _ _ (front (goal.at.slice_bounds-find_many-end c).After-cut_lines-c))
+pub slice_bounds-said-end : goal.slice_bounds-said-end
+slice_bounds-said-end c = sym (length-take-le _ _ (front (goal.at.slice_bounds-said-end c).After-cut_lines-c))
 
 pub count_ticks-requires : goal.count_ticks-requires
 count_ticks-requires c =

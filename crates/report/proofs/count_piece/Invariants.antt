@@ -7,8 +7,8 @@ use Rattle.report.proofs.count_piece.Given as goal
 
 abbrev pub invariant-loop-at : goal.invariant-loop-at
 invariant-loop-at l =
-    Going (record { run = l.initial.run; held = l.initial.held; servers = l.initial.servers; tasks = l.initial.tasks; modes = l.initial.modes }) l.bytes l.at
-    (record { run = l.run; held = l.held; servers = l.servers; tasks = l.tasks; modes = l.modes }) l.values l.told l.found
+    Going (record { run = l.initial.run; held = l.initial.held; counts = l.initial.counts }) l.bytes l.at
+    (record { run = l.run; held = l.held; counts = l.counts }) l.values l.told l.found
 
 abbrev pub decreases-loop-at : goal.decreases-loop-at
 decreases-loop-at l =

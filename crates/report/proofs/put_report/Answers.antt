@@ -7,7 +7,7 @@ use Rattle.report.proofs.put_report.Goals.{Start}
 
 -- what stands
 abbrev stands : Start → Stand
-stands s = standing s.args.n s.args.servers.now s.args.tasks.now s.args.modes.now
+stands s = standing s.args.n s.args.counts.now
 
 pub put_page-requires-clause-nservers_bound : goal.put_page-requires-clause-nservers_bound
 put_page-requires-clause-nservers_bound c =

@@ -1,32 +1,51 @@
 -- Only contracts of inner functions cite this file; a buyer need not read it. The parts of a page
--- whose numbers stand in arrays, as they are put one after the other.
-use Rattle.std.specs.Prelude.{List, [], ◌∷◌, ℕ, ◌*◌, ◌≤◌, length}
+-- whose numbers stand in the columns of Counts, as they are put one after the other.
+use Rattle.std.specs.Prelude.{List, [], ◌∷◌, ℕ, ◌*◌, ◌≤◌, length, get_or}
 use Rattle.decimal.specs.Number.{digits}
 use Rattle.decimal.specs.Lines.{tab, closed}
 use Rattle.decimal.specs.Room.{Put}
+use Rattle.table.specs.declared.Mode.{Mode}
 use Rattle.table.specs.declared.Mode.TheVariants.{N, D1, D2}
+use Rattle.table.specs.Rows.{mode_value}
+use Rattle.morning.specs.Numbers.{ServerNumbers, TaskNumbers}
 use Rattle.morning.specs.Page.{server_line, task_line, mode_line, row_lines, page_lines}
-use Rattle.morning.specs.Inner.{servers_in, tasks_in, modes_in}
+use Rattle.report.specs.declared.count.Counts.{Counts}
 
-abbrev pub server_line_in : List ℕ → ℕ → List ℕ
-server_line_in xs i = server_line i (servers_in xs i)
+-- the numbers that stand in the columns
+abbrev pub server_in : Counts → ℕ → ServerNumbers
+server_in c i = record { charged = get_or c.charged i 0; empty = get_or c.empty i 0; longest = get_or c.longest i 0 }
 
-abbrev pub task_line_in : List ℕ → List ℕ → ℕ → List ℕ
-task_line_in xs waiting k = task_line k (tasks_in xs waiting k)
+abbrev pub task_in : Counts → List ℕ → ℕ → TaskNumbers
+task_in c waiting k =
+    record {
+      finished = get_or c.finished k 0;
+      cut = get_or c.cut k 0;
+      discarded = get_or c.discarded k 0;
+      waiting = get_or waiting k 0;
+    }
+
+abbrev pub mode_in : List ℕ → Mode → ℕ
+mode_in xs m = get_or xs (mode_value m) 0
+
+abbrev pub server_line_in : Counts → ℕ → List ℕ
+server_line_in c i = server_line i (server_in c i)
+
+abbrev pub task_line_in : Counts → List ℕ → ℕ → List ℕ
+task_line_in c waiting k = task_line k (task_in c waiting k)
 
 -- the lines of the first n servers, of the first n tasks, of the modes
-abbrev pub server_lines_in : ℕ → List ℕ → List (List ℕ)
-server_lines_in n xs = row_lines (server_line_in xs) n
+abbrev pub server_lines_in : ℕ → Counts → List (List ℕ)
+server_lines_in n c = row_lines (server_line_in c) n
 
-abbrev pub task_lines_in : ℕ → List ℕ → List ℕ → List (List ℕ)
-task_lines_in n xs waiting = row_lines (task_line_in xs waiting) n
+abbrev pub task_lines_in : ℕ → Counts → List ℕ → List (List ℕ)
+task_lines_in n c waiting = row_lines (task_line_in c waiting) n
 
 abbrev pub mode_lines_in : List ℕ → List (List ℕ)
-mode_lines_in xs = mode_line N (modes_in xs N) ∷ mode_line D1 (modes_in xs D1) ∷ mode_line D2 (modes_in xs D2) ∷ []
+mode_lines_in xs = mode_line N (mode_in xs N) ∷ mode_line D1 (mode_in xs D1) ∷ mode_line D2 (mode_in xs D2) ∷ []
 
 -- all of them
-abbrev pub page_in : ℕ → ℕ → List ℕ → List ℕ → List ℕ → List ℕ → List (List ℕ)
-page_in nservers ntasks xs ys waiting zs = page_lines nservers ntasks (servers_in xs) (tasks_in ys waiting) (modes_in zs)
+abbrev pub page_in : ℕ → ℕ → Counts → List ℕ → List (List ℕ)
+page_in nservers ntasks c waiting = page_lines nservers ntasks (server_in c) (task_in c waiting) (mode_in c.modes)
 
 -- a tab and a number, of at most 20 digits
 pub record FieldPut (x : ℕ) (room : List ℕ) (at : ℕ) (left : List ℕ) (next : ℕ) : Type 0 where

@@ -8,4 +8,4 @@ use Rattle.report.proofs.count.count_discards.Given as goal
 
 abbrev pub invariant-loop-k : goal.invariant-loop-k
 invariant-loop-k l =
-    (l.k ≤ l.ntasks) × (l.ntasks ≤ 64) × (length l.found ≡ 96) × (length l.initial.tasks ≡ 192) × DiscardsGoing l.k l.found l.initial.tasks l.tasks
+    (l.k ≤ l.ntasks) × (l.ntasks ≤ 64) × (length l.found ≡ 96) × DiscardsGoing l.k l.found l.initial.counts l.counts

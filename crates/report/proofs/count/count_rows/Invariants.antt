@@ -8,5 +8,4 @@ use Rattle.report.proofs.count.count_rows.Given as goal
 
 abbrev pub invariant-loop-i : goal.invariant-loop-i
 invariant-loop-i l =
-    (l.i ≤ l.nservers) × (l.nservers ≤ 32) × (length l.found ≡ 96) × (length l.initial.servers ≡ 128)
-    × RowsGoing l.i l.found l.initial.servers l.servers
+    (l.i ≤ l.nservers) × (l.nservers ≤ 32) × (length l.found ≡ 96) × RowsGoing l.i l.found l.initial.counts l.counts

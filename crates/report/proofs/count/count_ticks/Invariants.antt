@@ -14,5 +14,5 @@ abbrev pub invariant-loop-i : goal.invariant-loop-i
 invariant-loop-i l =
     (l.i ≤ l.n) × (9 * l.n ≤ length l.told) × (96 * l.n ≤ length l.initial.found) × (length l.found ≡ length l.initial.found)
     × ((t : Table) (ms new : List TakenTick) →
-    TicksHanded t ms new l.nservers l.ntasks l.n l.told l.initial.found l.initial.servers l.initial.tasks l.initial.modes →
-    TicksLeft t (ms ++ new) l.nservers l.ntasks (l.n - l.i) (drop (9 * l.i) l.told) (drop (96 * l.i) l.found) l.servers l.tasks l.modes)
+    TicksHanded t ms new l.nservers l.ntasks l.n l.told l.initial.found l.initial.counts →
+    TicksLeft t (ms ++ new) l.nservers l.ntasks (l.n - l.i) (drop (9 * l.i) l.told) (drop (96 * l.i) l.found) l.counts)

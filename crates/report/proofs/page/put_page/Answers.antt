@@ -6,5 +6,5 @@ use Rattle.report.proofs.page.put_page.Goals as goal
 pub returns : goal.returns
 returns c =
     let a = c.args in
-    page_put a.nservers a.ntasks a.servers.now a.tasks.now a.waiting.now a.modes.now
+    page_put a.nservers a.ntasks a.counts.now a.waiting.now
     c.requires.nservers_bound.0 c.requires.nservers_bound.1 c.requires.longest_page_in_bounds c.put_servers-k.ensures c.put_tasks-k.ensures c.put_modes.ensures

@@ -10,7 +10,7 @@ use Rattle.report.proofs.page.put_servers.Goals.{Start}
 
 -- the lines of the rows
 abbrev lines : Start → ℕ → List ℕ
-lines s = server_line_in s.args.servers.now
+lines s = server_line_in s.args.counts.now
 
 pub loop-i-init : goal.loop-i-init
 loop-i-init c =

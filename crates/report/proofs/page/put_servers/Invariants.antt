@@ -7,4 +7,4 @@ use Rattle.report.proofs.page.put_servers.Given as goal
 
 abbrev pub invariant-loop-i : goal.invariant-loop-i
 invariant-loop-i l =
-    (l.i ≤ l.n) × LinesPut (row_lines (server_line_in l.servers) l.i) l.initial.room l.at l.room l.k
+    (l.i ≤ l.n) × LinesPut (row_lines (server_line_in l.counts) l.i) l.initial.room l.at l.room l.k

@@ -10,7 +10,7 @@ use Rattle.report.proofs.page.put_tasks.Goals.{Start}
 
 -- the lines of the rows
 abbrev lines : Start → ℕ → List ℕ
-lines s = task_line_in s.args.tasks.now s.args.waiting.now
+lines s = task_line_in s.args.counts.now s.args.waiting.now
 
 pub loop-i-init : goal.loop-i-init
 loop-i-init c =
