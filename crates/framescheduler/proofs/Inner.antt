@@ -4,14 +4,20 @@ use mathlib.Core.Path.{◌≡◌, refl, sym, ap, subst, ◌∙◌}
 use mathlib.Core.Bool.{Bool, true, false, not, ◌&&◌, ◌||◌}
 use mathlib.Core.List.{List, [], ◌∷◌}
 use mathlib.Core.Logic.{◌⊎◌, inl, inr}
-use Prim.Native.Nat.{ℕ, ◌+◌, ◌*◌, ◌/◌, ◌≤◌, ◌<◌}
+use Prim.Native.Nat.{ℕ, zero, suc, ◌+◌, ◌*◌, ◌/◌, ◌≤◌, ◌<◌}
 use native.Mathlib.Omega.{arith}
-use lib.Dec.{ltb, eqb}
-use lib.ListN.{length, get_or}
+use native.Mathlib.Nat.{add-zero}
+use lib.Dec.{ltb, eqb, lit<}
+use lib.ListN.{length, get_or, take, drop, length-take}
+use lib.Seq.{get_or-take}
+use Rattle.std.specs.Simd.{first_chunks}
+use Rattle.std.proofs.lemmas.List.{get_or-drop, drop-drop}
 use borrow.Author.Tests.{ltb-true, ltb-false, lt-ltb, le-ltb, le-leb, lt-leb, eq-eqb, ne_eqb}
 use Rattle.laws.specs.Choice.{every, within}
 use Rattle.laws.specs.Rows.{anew}
-use Rattle.laws.proofs.Choice.{and_left, and_right, true_or_false, within_high}
+use Rattle.std.specs.Cmp.{first_so, second_so}
+use Rattle.std.proofs.lemmas.Bool.{cases_Bool}
+use Rattle.laws.proofs.Choice.{within_high}
 use Rattle.laws.proofs.Highest.{Top, top_skip, top_take, top_keep}
 use Rattle.table.specs.declared.Refusal.TheVariants.{NoTask, QueueFull, NoJobRan, CountSpent, Unsound, RoomShort}
 use Rattle.table.specs.declared.Mode.TheVariants.{N}
@@ -23,10 +29,10 @@ use Rattle.events.specs.declared.Turn.{Turn}
 use Rattle.events.specs.declared.Turn.TheVariants.{Run as Ran, Empty, Idle}
 use Rattle.events.specs.declared.Event.{Event}
 use Rattle.events.specs.declared.Event.TheVariants.{Release, Tick}
-use Rattle.events.specs.Values.{lines_said}
+use Rattle.events.specs.Values.{line_said, lines_said}
 use Rattle.events.specs.Boxes.{after_line_in}
 use Rattle.events.proofs.Boxes.{Going, going_end as going-end-in, line_keeps as line-keeps-in}
-use Rattle.events.proofs.Values.{lines_length}
+use Rattle.events.proofs.Values.{lines_length, lines_left}
 use Rattle.queues.specs.Queues.{turn_of, last_of, ran_job, is_last}
 use Rattle.queues.specs.Sound.{last_sound, counts_sound, queue_sound}
 use Rattle.queues.specs.Inner.{left_waiting, left_runs}
@@ -34,7 +40,8 @@ use Rattle.queues.proofs.Inner.{waiting_left, runs_left}
 use Rattle.queues.proofs.Queues.{anew_one, unchanged}
 use Rattle.queues.proofs.Sound.{LastSound}
 use Rattle.frametable.specs.declared.FrameTable.{FrameTable}
-use Rattle.frametable.specs.Rows.{frame_rows_of, partition_at, frame_priority_at, frame_limit_at}
+use Rattle.frametable.specs.declared.FrameTask.{FrameTask}
+use Rattle.frametable.specs.Rows.{no_frame_task, frame_task_at, frame_rows_of, partition_at, frame_priority_at, frame_limit_at}
 use Rattle.frametable.specs.Rules.{frame_keeps, frame_table_keeps}
 use Rattle.frametable.proofs.Rules.{FrameTableRules, frame_table_rules}
 use Rattle.framerun.specs.declared.FrameState.{FrameState}
@@ -47,10 +54,9 @@ use Rattle.framerun.specs.Tick.{Settled, settle, highest_task, turn_at, advance,
 use Rattle.framerun.specs.Events.{event_of, frame_box}
 use Rattle.framerun.specs.Many.{untaken, taken, frame_many_of}
 use Rattle.framerun.proofs.Sound.{StateSound, sound_table, sound_state_lem}
-use Rattle.framerun.proofs.Tick.{Shaped, settled_row, found_front}
+use Rattle.framerun.proofs.Tick.{settled_row, found_front}
 use Rattle.framerun.proofs.Kept.{FrameShaped, Good, event_keeps}
-use Rattle.framescheduler.specs.declared.steps.Head.{Head}
-use Rattle.framescheduler.specs.Inner.{tasks_sound, state_of, head_of, run_of, LastLow, Settles, Numbered, highest_in}
+use Rattle.framescheduler.specs.Inner.{Head, tasks_sound, state_of, head_of, run_of, LastLow, Settles, Numbered, highest_in}
 use Rattle.framescheduler.specs.Inner.{TurnLow, RunsOn, SoundRun}
 
 -- a start
@@ -62,6 +68,11 @@ pub start_unsound : (t : FrameTable) → frame_table_keeps t ≡ false →
     record { answer = Err Unsound; run = fresh_frame t } ≡ start_of t
 unfolding start_of
 start_unsound t e = rw e
+
+-- a row in use, among the rows in use
+row_asked : (t : FrameTable) (k : ℕ) → k < length (take t.ntasks t.tasks) →
+    get_or (take t.ntasks t.tasks) k no_frame_task ≡ frame_task_at t k
+row_asked t k h = get_or-take t.ntasks t.tasks k no_frame_task (omega (arith, length-take t.ntasks t.tasks))
 
 -- soundness, as the door asks it
 module _ (t : FrameTable) (s : FrameState) where
@@ -79,19 +90,24 @@ module _ (t : FrameTable) (s : FrameState) where
   unfolding frame_sound sound_state
   state_asked e = rw e
 
-  pub task_tests_lem : (k : ℕ) →
-      every (sound_task t s k) ≡ every (queue_sound (frame_limit_at t k) (waiting_at s k) (runs_at s k) (is_last s.last k))
+  -- a row in use, as a loop over the rows reads it
+  pub task_asked : (k : ℕ) → k < length (take t.ntasks t.tasks) →
+      every (sound_task t s k)
+      ≡ every
+      (queue_sound (get_or (take t.ntasks t.tasks) k no_frame_task).limit.0 (waiting_at s k) (runs_at s k) (is_last s.last k))
   unfolding sound_task
-  task_tests_lem k = refl
+  task_asked k h =
+      let e = row_asked t k h in
+      ap (λ (x : FrameTask). every (queue_sound x.limit.0 (waiting_at s k) (runs_at s k) (is_last s.last k))) (sym e)
 
 -- a table that keeps the rules has no more rows than its array holds
 pub tasks_fit : (t : FrameTable) → frame_table_keeps t ≡ true → t.ntasks ≤ 64
 unfolding frame_table_keeps
 tasks_fit t e =
-    within_high 1 64 t.ntasks (and_left (within 1 64 t.ntasks) (frame_keeps (frame_rows_of t)) e)
+    within_high 1 64 t.ntasks (first_so (within 1 64 t.ntasks) (frame_keeps (frame_rows_of t)) e)
 
 -- what soundness says of a run in parts
-module _ (t : FrameTable) (h : Head) (w c : List ℕ) (r : SoundRun t h w c) where
+module _ (t : FrameTable) (h : Head) (w c : List ℕ) (r : SoundRun (run_of t h w c)) where
   pub run_rules : FrameTableRules t
   run_rules = frame_table_rules t (record { tasks = r.sized }) (sound_table (run_of t h w c) r.sound)
 
@@ -113,6 +129,9 @@ module _ (t : FrameTable) (h : Head) (w c : List ℕ) (r : SoundRun t h w c) whe
   numbered = record { few = run_rules.tasks_high; least = λ k l. (run_rules.task k l).priority_low }
 
 -- The mark.
+pub rules_of : (r : FrameRun) → SoundRun r → FrameTableRules r.table
+rules_of r s = run_rules r.table (head_of r.state) r.state.waiting r.state.runs s
+
 module _ (t : FrameTable) (h : Head) (w c : List ℕ) where
   pub settle_none : (mark : Bool) → h.last ≡ None → Settles t h mark w c w c Nobody
   unfolding settle
@@ -144,12 +163,12 @@ module _ (t : FrameTable) (w : List ℕ) (p n height row : ℕ) (l : n < t.ntask
       Top (n + 1) (waits_of t w p) (frame_priority_at t) (frame_priority_at t n) n
   top_higher e =
       top_take (waits_of t w p) (frame_priority_at t) n height row top
-      (and_left (waits_of t w p n) (ltb height (frame_priority_at t n)) e)
-      (ltb-true height (frame_priority_at t n) (and_right (waits_of t w p n) (ltb height (frame_priority_at t n)) e))
+      (first_so (waits_of t w p n) (ltb height (frame_priority_at t n)) e)
+      (ltb-true height (frame_priority_at t n) (second_so (waits_of t w p n) (ltb height (frame_priority_at t n)) e))
 
   top_other : (waits_of t w p n && ltb height (frame_priority_at t n)) ≡ false →
       Top (n + 1) (waits_of t w p) (frame_priority_at t) height row
-  top_other e = go (true_or_false (waits_of t w p n))
+  top_other e = go (cases_Bool (waits_of t w p n))
     where
       go : (waits_of t w p n ≡ true) ⊎ (waits_of t w p n ≡ false) →
           Top (n + 1) (waits_of t w p) (frame_priority_at t) height row
@@ -158,12 +177,21 @@ module _ (t : FrameTable) (w : List ℕ) (p n height row : ℕ) (l : n < t.ntask
           (ltb-false height (frame_priority_at t n) (rw q at e)) (r.least n l)
       go (inr q) = top_skip (waits_of t w p) (frame_priority_at t) n height row top q
 
-  pub top-walk :
-      ((waits_of t w p n && ltb height (frame_priority_at t n)) ≡ true →
-      Top (n + 1) (waits_of t w p) (frame_priority_at t) (frame_priority_at t n) n) ×
-      ((waits_of t w p n && ltb height (frame_priority_at t n)) ≡ false →
-      Top (n + 1) (waits_of t w p) (frame_priority_at t) height row)
-  top-walk = (top_higher, top_other)
+-- the same of a row as a loop over the rows reads it
+abbrev Walked : FrameTable → List ℕ → (p n height row : ℕ) → FrameTask → Type 0
+Walked t w p n height row x =
+    (((ltb 0 (get_or w n 0) && eqb x.partition p) && ltb height x.priority) ≡ true →
+    Top (n + 1) (waits_of t w p) (frame_priority_at t) x.priority n) ×
+    (((ltb 0 (get_or w n 0) && eqb x.partition p) && ltb height x.priority) ≡ false →
+    Top (n + 1) (waits_of t w p) (frame_priority_at t) height row)
+
+pub top-walk : (t : FrameTable) (w : List ℕ) (p n height row : ℕ) → n < length (take t.ntasks t.tasks) → Numbered t →
+    Top n (waits_of t w p) (frame_priority_at t) height row →
+    Walked t w p n height row (get_or (take t.ntasks t.tasks) n no_frame_task)
+top-walk t w p n height row h r top =
+    let l : n < t.ntasks = omega (arith, length-take t.ntasks t.tasks, h) in
+    subst (Walked t w p n height row) (sym (row_asked t n h))
+    (top_higher t w p n height row l r top, top_other t w p n height row l r top)
 
 -- A release of a sound run, by the first test that fails.
 module _ (r : FrameRun) (k : ℕ) (e : frame_sound r ≡ true) where
@@ -227,7 +255,7 @@ runs_anew n (Empty p) c c' b q = unchanged n c ∙ sym q
 runs_anew n Idle c c' b q = unchanged n c ∙ sym q
 
 -- A tick: the queues w and c were made w' and c' by the mark, and c' was made c'' by the turn.
-module _ (t : FrameTable) (h : Head) (w c : List ℕ) (mark : Bool) (r : SoundRun t h w c) (w' c' : List ℕ) (left : Left)
+module _ (t : FrameTable) (h : Head) (w c : List ℕ) (mark : Bool) (r : SoundRun (run_of t h w c)) (w' c' : List ℕ) (left : Left)
     (settles : Settles t h mark w c w' c' left) where
   -- what is found is what the definition finds
   found_is : turn_of (owner_at h.ticks.0) (highest_in t w' (owner_at h.ticks.0)) ≡ turn_at t (state_of h w' c')
@@ -308,6 +336,25 @@ unfolding frame_many_of
 many_taken r values room e h =
     rw (e, le-leb (9 * length (lines_said values)) (length room) (omega (arith, lines_length values)))
 
+-- the two numbers of a line, among all of them
+pair_at : (n i : ℕ) (vs d : List ℕ) → i < n → get_or (first_chunks 2 n vs) i d ≡ take 2 (drop (2 * i) vs)
+pair_at zero i vs d h = absurd (omega arith)
+pair_at (suc n) zero vs d h = refl
+pair_at (suc n) (suc i) vs d h =
+    let e : 2 * suc i ≡ 2 + 2 * i = omega arith in
+    pair_at n i (drop 2 vs) d (omega arith) ∙ ap (take 2) (drop-drop (2 * i) 2 vs) ∙ rw e
+
+pub line_left : (vs : List ℕ) (ps : List (List ℕ)) (i : ℕ) (d : List ℕ) → ps ≡ first_chunks 2 (length vs / 2) vs →
+    i < length (lines_said vs) →
+    drop i (lines_said vs)
+    ≡ line_said (get_or (get_or ps i d) 0 0) (get_or (get_or ps i d) 1 0) ∷ drop (i + 1) (lines_said vs)
+line_left vs ps i d q h =
+    let e : get_or ps i d ≡ take 2 (drop (2 * i) vs) =
+    ap (λ xs. get_or xs i d) q ∙ pair_at (length vs / 2) i vs d (omega (arith, lines_length vs)) in
+    let ys = drop (2 * i) vs in
+    rw (e, get_or-take 2 ys 0 0 (lit< tt), get_or-take 2 ys 1 0 (lit< tt), get_or-drop (2 * i) vs 0 0, get_or-drop (2 * i) vs 1 0, add-zero)
+    (lines_left vs i h)
+
 -- All lines, as the code hands them back.
 pub going_end : (r : FrameRun) (ls : List (Option Event)) (room : List ℕ) (z : FrameRun) (left : List ℕ) (i : ℕ) →
     i ≡ length ls → Going frame_box r ls room z left i →
@@ -317,27 +364,12 @@ going_end r ls room z left i e g =
     rw (h.0, ← h.1)
 
 -- a line keeps the run sound, and its rows in their arrays
-pub line_keeps : (t : FrameTable) (h : Head) (w c : List ℕ) (l : Option Event) (h' : Head) (w' c' : List ℕ) →
-    SoundRun t h w c → run_of t h' w' c' ≡ after_line_in frame_box (run_of t h w c) l → SoundRun t h' w' c'
-line_keeps t h w c l h' w' c' r e =
-    let g = line-keeps-in frame_box Good event_keeps (run_of t h w c) l (run_shaped t h w c r, r.sound) in
-    let g' : Good (run_of t h' w' c') = subst Good (sym e) g in
-    record { sized = r.sized; sound = g'.1; waiting = g'.0.state.waiting; runs = g'.0.state.runs }
-
--- A run that is handed in, in parts.
-pub parts_are : (t : FrameTable) (s : FrameState) (h : Head) → h ≡ head_of s →
-    run_of t h s.waiting s.runs ≡ record { table = t; state = s }
-parts_are t s h e = rw e
-
-pub sound_run : (t : FrameTable) (s : FrameState) (h : Head) → h ≡ head_of s → length t.tasks ≡ 64 →
-    frame_sound (record { table = t; state = s }) ≡ true → Shaped s → SoundRun t h s.waiting s.runs
-sound_run t s h e z q p =
-    record {
-      sized = z;
-      sound = ap frame_sound (parts_are t s h e) ∙ q;
-      waiting = p.waiting;
-      runs = p.runs;
-    }
+pub line_keeps : (r : FrameRun) (l : Option Event) (z : FrameRun) → SoundRun r → z ≡ after_line_in frame_box r l →
+    SoundRun z
+line_keeps r l z s e =
+    let g = line-keeps-in frame_box Good event_keeps r l (run_shaped r.table (head_of r.state) r.state.waiting r.state.runs s, s.sound) in
+    let g' : Good z = subst Good (sym e) g in
+    record { sized = g'.0.table.tasks; sound = g'.1; waiting = g'.0.state.waiting; runs = g'.0.state.runs }
 
 pub event_unsound : (r : FrameRun) (e : Event) → frame_sound r ≡ false → refused r Unsound ≡ event_of r e
 unfolding release_of tick_of

@@ -4,6 +4,7 @@
 use Rattle.std.specs.Prelude.{◌≡◌, Bool, true, ◌&&◌, List, ℕ, ◌+◌, ◌≤◌, ◌<◌, ltb, eqb, length, get_or, set, None, Option, Some}
 use Rattle.laws.specs.Choice.{every}
 use Rattle.laws.specs.Rows.{all_below, highest}
+use Rattle.units.specs.declared.Ticks.{Ticks}
 use Rattle.events.specs.declared.Left.{Left}
 use Rattle.events.specs.declared.Turn.{Turn}
 use Rattle.events.specs.declared.Turn.TheVariants.{Run as Ran, Empty, Idle}
@@ -11,17 +12,19 @@ use Rattle.frametable.specs.declared.FrameTable.{FrameTable}
 use Rattle.frametable.specs.Rows.{partition_at, frame_priority_at}
 use Rattle.framerun.specs.declared.FrameState.{FrameState}
 use Rattle.framerun.specs.declared.FrameRun.{FrameRun}
-use Rattle.events.specs.declared.Answered.{Answered}
 use Rattle.framerun.specs.Sound.{sound_task, frame_sound}
 use Rattle.framerun.specs.Tick.{settle}
-use Rattle.framescheduler.specs.declared.steps.Head.{Head}
-use Rattle.framescheduler.specs.declared.steps.Step.{Step}
 
 -- the first n tasks' queues are sound
 abbrev pub tasks_sound : FrameTable → FrameState → ℕ → Bool
 tasks_sound t s n = all_below n (λ k. every (sound_task t s k))
 
--- a run in parts
+-- a run in parts: what stands beside its table and its queues
+pub record Head : Type 0 where
+  pub last : Option ℕ
+  pub ticks : Ticks
+  pub accepted : ℕ
+
 abbrev pub state_of : Head → List ℕ → List ℕ → FrameState
 state_of h waiting runs =
     record { waiting = waiting; runs = runs; last = h.last; ticks = h.ticks; accepted = h.accepted }
@@ -31,10 +34,6 @@ head_of s = record { last = s.last; ticks = s.ticks; accepted = s.accepted }
 
 abbrev pub run_of : FrameTable → Head → List ℕ → List ℕ → FrameRun
 run_of t h waiting runs = record { table = t; state = state_of h waiting runs }
-
--- what a step answers, with the run after it
-abbrev pub stepped : FrameTable → Step → List ℕ → List ℕ → Answered FrameRun
-stepped t d waiting runs = record { answer = d.answer; run = run_of t d.head waiting runs }
 
 -- the last-run task has a row in the arrays
 abbrev pub LastLow : Option ℕ → Type 0
@@ -67,8 +66,8 @@ RunsOn (Empty p) c c' = c' ≡ c
 RunsOn Idle c c' = c' ≡ c
 
 -- a sound run, whose rows stand in arrays
-pub record SoundRun (t : FrameTable) (h : Head) (w c : List ℕ) : Type 0 where
-  pub sized : length t.tasks ≡ 64
-  pub sound : frame_sound (run_of t h w c) ≡ true
-  pub waiting : length w ≡ 64
-  pub runs : length c ≡ 64
+pub record SoundRun (r : FrameRun) : Type 0 where
+  pub sized : length r.table.tasks ≡ 64
+  pub sound : frame_sound r ≡ true
+  pub waiting : length r.state.waiting ≡ 64
+  pub runs : length r.state.runs ≡ 64

@@ -1,6 +1,8 @@
-// The run of a frame box: start afresh, release, tick, many event lines. (02, No. 6.) Any table, any
-// state, any task number may be handed in; what is refused takes no tick and comes back as it was.
-// Soundness (13) is decided here, once; behind this door stand the steps on a sound state (steps.rt).
+// The run of a frame box: start afresh, release, tick, many event lines. (02, No. 6.) Any table,
+// any state, any task number may be handed in; what is refused takes no tick and comes back as it
+// was. Soundness (13) is decided here, once; behind this door stand the steps on a sound run
+// (steps.rt).
+// Kept: the doors are a few lines each over another run than crate scheduler's, which has sheets.
 
 #![tactic(auto)]
 
@@ -13,9 +15,7 @@ ghost use Rattle.framerun.specs.Release.{start_of, release_of};
 ghost use Rattle.framerun.specs.Tick.{tick_of};
 ghost use Rattle.framerun.specs.Events.{event_of};
 ghost use Rattle.framerun.specs.Many.{frame_many_of};
-ghost use Rattle.framescheduler.specs.Inner.{head_of, run_of};
 
-use crate::steps::Head;
 use events::{Answer, Answered, Begun, Event, LINE_VALUES, Many, TOLD_VALUES};
 use framerun::{FrameRun, FrameState};
 use frametable::FrameTable;
@@ -23,6 +23,7 @@ use table::{Refusal, TASKS};
 use units::Ticks;
 
 // "A fresh run is in N, all counts 0."
+// Kept: zeros are written out, as `fresh` has them.
 fn fresh_state() -> FrameState
     ensures { result ≡ fresh }
 {
@@ -39,8 +40,10 @@ fn fresh_state() -> FrameState
 pub fn start(t: FrameTable) -> Begun<FrameRun>
     ensures { result ≡ start_of t }
 {
-    let state = fresh_state();
-    let run = FrameRun { table: t, state };
+    let run = FrameRun {
+        table: t,
+        state: fresh_state(),
+    };
     if frametable::frame_table_keeps(t) {
         return Begun {
             answer: Ok(()),
@@ -53,54 +56,18 @@ pub fn start(t: FrameTable) -> Begun<FrameRun>
     }
 }
 
-fn head_of(s: FrameState) -> Head
-    ensures { result ≡ head_of s }
-{
-    let last = s.last;
-    let ticks = s.ticks;
-    Head {
-        last,
-        ticks,
-        accepted: s.accepted,
-    }
-}
-
-// The run that has these parts.
-fn run_of(t: FrameTable, h: Head, waiting: [u8; TASKS], runs: [u32; TASKS]) -> FrameRun
-    ensures { result ≡ run_of t h waiting runs }
-{
-    let last = h.last;
-    let ticks = h.ticks;
-    let state = FrameState {
-        waiting,
-        runs,
-        last,
-        ticks,
-        accepted: h.accepted,
-    };
-    FrameRun { table: t, state }
-}
-
 // An event, on a run that is handed in. Refused: 13 first.
 fn answer_event(r: FrameRun, e: Event) -> Answered<FrameRun>
     ensures { result ≡ event_of r e }
 {
-    let t = r.table;
-    let s = r.state;
-    if !sound::run_sound(t, s) {
+    if !sound::run_sound(&r) {
         return Answered {
             answer: Answer::No(Refusal::Unsound),
             run: r,
         };
     }
-    let h = head_of(s);
-    let frame = slots::the_frame();
-    let mut waiting = s.waiting;
-    let mut runs = s.runs;
-    let d = steps::event_in(t, h, &frame, &mut waiting, &mut runs, e);
-    let answer = d.answer;
-    let head = d.head;
-    let run = run_of(t, head, waiting, runs);
+    let mut run = r;
+    let answer = steps::event_in(&mut run, &slots::the_frame(), e);
     Answered { answer, run }
 }
 
@@ -108,16 +75,14 @@ fn answer_event(r: FrameRun, e: Event) -> Answered<FrameRun>
 pub fn release(r: FrameRun, task: usize) -> Answered<FrameRun>
     ensures { result ≡ release_of r task }
 {
-    let e = Event::Release(task);
-    answer_event(r, e)
+    answer_event(r, Event::Release(task))
 }
 
 // One tick, with its end mark. Refused: 13, then 9, 10.
 pub fn tick(r: FrameRun, mark: bool) -> Answered<FrameRun>
     ensures { result ≡ tick_of r mark }
 {
-    let e = Event::Tick(mark);
-    answer_event(r, e)
+    answer_event(r, Event::Tick(mark))
 }
 
 // What is told to many event lines stands at the front of the lent room, nine numbers a line.
@@ -125,9 +90,7 @@ pub fn tick(r: FrameRun, mark: bool) -> Answered<FrameRun>
 pub fn answer_many(r: FrameRun, lines: &[u64], told: &mut [u64]) -> Many<FrameRun>
     ensures { record { many = result; room = told.new } ≡ frame_many_of r lines.now told.old }
 {
-    let t = r.table;
-    let s = r.state;
-    if !sound::run_sound(t, s) {
+    if !sound::run_sound(&r) {
         return Many {
             answer: Err(Refusal::Unsound),
             run: r,
@@ -139,12 +102,8 @@ pub fn answer_many(r: FrameRun, lines: &[u64], told: &mut [u64]) -> Many<FrameRu
             run: r,
         };
     }
-    let h = head_of(s);
-    let frame = slots::the_frame();
-    let mut waiting = s.waiting;
-    let mut runs = s.runs;
-    let head = steps::answer_lines(t, h, &frame, &mut waiting, &mut runs, lines, told);
-    let run = run_of(t, head, waiting, runs);
+    let mut run = r;
+    steps::answer_lines(&mut run, &slots::the_frame(), lines, told);
     Many {
         answer: Ok(()),
         run,

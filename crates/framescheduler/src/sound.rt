@@ -5,37 +5,31 @@ ghost use Rattle.std.specs.Prelude.{◌≡◌, ◌≤◌};
 ghost use Rattle.framerun.specs.Sound.{frame_sound};
 ghost use Rattle.framescheduler.specs.Inner.{tasks_sound};
 
-use framerun::FrameState;
-use frametable::FrameTable;
+use framerun::FrameRun;
 
-fn tasks_sound(t: FrameTable, s: FrameState) -> bool
-    requires { t.ntasks ≤ 64 }
-    ensures { result ≡ tasks_sound t s t.ntasks }
+fn tasks_sound(r: &FrameRun) -> bool
+    requires { r.now.table.ntasks ≤ 64 }
+    ensures { result ≡ tasks_sound r.now.table r.now.state r.now.table.ntasks }
 {
-    let last = s.last;
-    for k in 0..t.ntasks {
-        let row = t.tasks[k];
-        let ran = queues::is_last(last, k);
-        if !queues::queue_sound(row.limit.0, s.waiting[k], s.runs[k], ran) {
+    for (k, task) in r.table.tasks[..r.table.ntasks].iter().enumerate() {
+        let ran = queues::is_last(r.state.last, k);
+        if !queues::queue_sound(task.limit.0, r.state.waiting[k], r.state.runs[k], ran) {
             return false;
         }
     }
     true
 }
 
-pub(crate) fn run_sound(t: FrameTable, s: FrameState) -> bool
-    ensures { result ≡ frame_sound (record { table = t; state = s }) }
+pub(crate) fn run_sound(r: &FrameRun) -> bool
+    ensures { result ≡ frame_sound r.now }
 {
-    if !frametable::frame_table_keeps(t) {
+    if !frametable::frame_table_keeps(r.table) {
         return false;
     }
-    let tasks = tasks_sound(t, s);
-    let n = t.ntasks;
-    let waiting = s.waiting;
-    let runs = s.runs;
-    let ticks = s.ticks.0;
-    let l = s.last;
-    let last = queues::last_sound(n, waiting, runs, ticks, l);
-    let counts = queues::counts_sound(n, waiting, ticks, s.accepted);
+    let n = r.table.ntasks;
+    let s = &r.state;
+    let tasks = tasks_sound(r);
+    let last = queues::last_sound(n, s.waiting, s.runs, s.ticks.0, s.last);
+    let counts = queues::counts_sound(n, s.waiting, s.ticks.0, s.accepted);
     laws::all_of(&[tasks, last, counts])
 }

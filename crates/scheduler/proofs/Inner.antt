@@ -1,4 +1,3 @@
-pub mod Parts
 pub mod Columns
 pub mod Steps
 pub mod Choose

@@ -1,45 +1,16 @@
 // What steps 5 to 7 of a tick change. (01, What one tick does.)
 
-ghost use Rattle.std.specs.Prelude.{◌≡◌, ◌+◌, ◌≤◌, ◌<◌, leb, get_or, set, if◌then◌else◌};
-ghost use Rattle.scheduler.specs.Inner.Steps.{ChargeFits, Charges, RunFits, RunsFront, after_run, Low, Ages, CountsFit, Advances};
+ghost use Rattle.std.specs.Prelude.{◌≡◌, ◌≤◌};
+ghost use Rattle.queues.specs.Queues.{last_of};
+ghost use Rattle.scheduler.specs.Inner.Steps.{ChargeFits, Charges, RunFits, RunsFront};
+ghost use Rattle.scheduler.specs.Inner.Steps.{Low, Ages, CountsFit, Advances};
 
-use crate::parts::Head;
-use crate::sheets;
-use crate::sheets::{PHASE, SERVER_CELLS};
+use crate::count_if;
+use crate::sheets::{PHASE, Sheets};
 use events::Turn;
+use run::State;
 use table::{SERVERS, TASKS};
 use units::Ticks;
-
-// The job that is run in this tick is the last-run job of the next.
-fn after_run(h: Head, turn: Turn) -> Head
-    ensures { result ≡ after_run h turn }
-{
-    match turn {
-        Turn::Run { server: _, task } => Head {
-            ran: true,
-            task,
-            ..h
-        },
-        Turn::Empty { server: _ } => Head {
-            ran: false,
-            task: 0,
-            ..h
-        },
-        Turn::Idle => Head {
-            ran: false,
-            task: 0,
-            ..h
-        },
-    }
-}
-
-// "used plus 1"
-fn add_used(used: &mut [u32; SERVERS], i: usize)
-    requires { (i < 32) × (get_or used.old i 0 ≤ 1000000) }
-    ensures { used.new ≡ set used.old i (get_or used.old i 0 + 1) }
-{
-    used[i] = used[i] + 1;
-}
 
 // Step 5: "The highest is charged: used plus 1."
 fn charge(turn: Turn, used: &mut [u32; SERVERS])
@@ -47,12 +18,7 @@ fn charge(turn: Turn, used: &mut [u32; SERVERS])
     ensures { Charges turn used.old used.new }
 {
     match turn {
-        Turn::Run { server, task: _ } => {
-            add_used(used, server);
-        }
-        Turn::Empty { server } => {
-            add_used(used, server);
-        }
+        Turn::Run { server, .. } | Turn::Empty { server } => used[server] += 1,
         Turn::Idle => {}
     }
 }
@@ -62,54 +28,41 @@ fn run_front(turn: Turn, runs: &mut [u32; TASKS])
     requires { RunFits turn runs.old }
     ensures { RunsFront turn runs.old runs.new }
 {
+    if let Turn::Run { task, .. } = turn {
+        queues::run_front(task, runs);
+    }
+}
+
+// The job that is run in this tick is the last-run job of the next.
+// Kept: five lines, in each box: one for both would be one more public function.
+fn last_of(turn: Turn) -> Option<usize>
+    ensures { result ≡ last_of turn }
+{
     match turn {
-        Turn::Run { server: _, task } => {
-            queues::run_front(task, runs);
-        }
-        Turn::Empty { server: _ } => {}
-        Turn::Idle => {}
+        Turn::Run { task, .. } => Some(task),
+        Turn::Empty { .. } | Turn::Idle => None,
     }
 }
 
-// How much of its period passes for a server in the tick after so many.
-fn passes(phase: u32, ticks: u32) -> u32
-    ensures { result ≡ (if leb phase ticks then 1 else 0) }
+// Step 7: "All elapsed counts .. rise by 1", of servers that have started.
+fn age(sheets: &Sheets, ticks: u32, elapsed: &mut [u32; SERVERS])
+    requires { (sheets.now.nservers ≤ 32) × Low sheets.now.nservers elapsed.old }
+    ensures { Ages sheets.now ticks elapsed.old elapsed.new }
 {
-    if phase <= ticks {
-        return 1;
-    }
-    0
-}
-
-// Step 7: "All elapsed counts .. rise by 1", of servers that have started. n servers are in use.
-fn age(n: usize, ticks: u32, servers: &[u32; SERVER_CELLS], elapsed: &mut [u32; SERVERS])
-    requires { (n ≤ 32) × Low n elapsed.old }
-    ensures { Ages n ticks servers.now elapsed.old elapsed.new }
-{
-    for i in 0..n {
-        let phase = sheets::server_cell(servers, PHASE, i);
-        elapsed[i] = elapsed[i] + passes(phase, ticks);
+    // Kept: a row is counted, since it stands in a column and in the counts at once.
+    for i in 0..sheets.nservers {
+        elapsed[i] += count_if(sheets.servers[PHASE + i] <= ticks, 1);
     }
 }
 
-// Steps 5 to 7, the tick saying `turn`: the head after them.
-pub(crate) fn advance(
-    h: Head,
-    turn: Turn,
-    servers: &[u32; SERVER_CELLS],
-    used: &mut [u32; SERVERS],
-    elapsed: &mut [u32; SERVERS],
-    runs: &mut [u32; TASKS],
-) -> Head
-    requires { CountsFit h turn used.old elapsed.old runs.old }
-    ensures { Advances h turn servers.now used.old elapsed.old runs.old
-        used.new elapsed.new runs.new result }
+// Steps 5 to 7, the tick saying `turn`.
+pub(crate) fn advance(sheets: &Sheets, state: &mut State, turn: Turn)
+    requires { CountsFit sheets.now turn state.old }
+    ensures { Advances sheets.now turn state.old state.new }
 {
-    charge(turn, used);
-    run_front(turn, runs);
-    age(h.nservers, h.ticks.0, servers, elapsed);
-    let t = h.ticks;
-    let ticks = Ticks(t.0 + 1);
-    let ran = after_run(h, turn);
-    Head { ticks, ..ran }
+    charge(turn, &mut state.used);
+    run_front(turn, &mut state.runs);
+    state.last = last_of(turn);
+    age(sheets, state.ticks.0, &mut state.elapsed);
+    state.ticks = Ticks(state.ticks.0 + 1);
 }

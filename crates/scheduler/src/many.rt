@@ -1,185 +1,96 @@
 // Many event lines at once: events to answers. Soundness (13) is decided once for all of them;
-// behind that door stands a loop over the lines, which is lent the table's sheets and the counts of
-// its rows. Lines and what is told to them are plain numbers, as crate events lays them out
-// (specs/Values.antt). A second door hands out of the ticks taken among the lines what is told and what is found
-// (specs/Found.antt).
+// behind that door stands a loop over the lines, which is lent the table's sheets and the state.
+// Lines and what is told to them are plain numbers, as crate events lays them out
+// (specs/Values.antt). A second door hands out of the ticks taken among the lines what is told and
+// what is found (specs/Found.antt).
 
-ghost use Rattle.std.specs.Prelude.{◌≡◌, ◌+◌, ◌*◌, ◌/◌, ◌≤◌, length};
-ghost use Rattle.std.proofs.Math.Seq.{paste};
+ghost use Rattle.std.specs.Prelude.{◌≡◌, ◌/◌, ◌≤◌, length, get_or};
+ghost use Rattle.events.specs.Values.{line_said};
 ghost use Rattle.run.specs.Many.{many_of, find_of};
 ghost use Rattle.scheduler.specs.Inner.Steps.{none_found};
 ghost use Rattle.scheduler.specs.Inner.Events.{SomeRun};
-ghost use Rattle.scheduler.specs.Inner.Many.{LineTaken, LinesTaken, is_tick, Puts, LinesFound};
+ghost use Rattle.scheduler.specs.Inner.Many.{LineTaken, LinesTaken, LinesFound, finding_of};
 
-use crate::parts::Head;
-use crate::sheets::{SERVER_CELLS, TASK_CELLS};
-use crate::{event, parts, sheets};
-use events::{Event, LINE_VALUES, Many, TOLD_VALUES, Told};
-use run::{FOUND_VALUES, Finding, Run};
-use table::{Refusal, SERVERS, TASKS};
+use crate::sheets::Sheets;
+use crate::{event, open};
+use events::{LINE_VALUES, Many, TOLD_VALUES, Told};
+use run::{FOUND_VALUES, Finding, Run, State};
+use table::Refusal;
 
-// What is told to a line, and the head after it.
-#[derive(Clone, Copy)]
-pub struct Reply {
-    pub told: Told,
-    pub head: Head,
-}
-
-// The head after some lines, and how many ticks were taken among them.
-#[derive(Clone, Copy)]
-pub struct Passed {
-    pub head: Head,
-    pub ticks: usize,
-}
-
-// What is found at a tick, written into the room from place `at` on.
-fn put_found(seen: &[u8; FOUND_VALUES], room: &mut [u8], at: usize)
-    requires { (length seen.now ≡ 96) × (at + 96 ≤ length room.old) }
-    ensures { room.new ≡ paste room.old at seen.now 96 }
-{
-    for j in 0..FOUND_VALUES {
-        room[at + j] = seen[j];
-    }
-}
+// Kept: answer_ and find_ share answer_line; one for both would be lent a room it does not use.
 
 // A line: the event that it says is taken or refused; "another line .. answers `?⇥no⇥1`" and
 // changes nothing.
 fn answer_line(
-    h: Head,
-    servers: &[u32; SERVER_CELLS],
-    tasks: &[u32; TASK_CELLS],
-    used: &mut [u32; SERVERS],
-    elapsed: &mut [u32; SERVERS],
-    waiting: &mut [u8; TASKS],
-    runs: &mut [u32; TASKS],
+    sheets: &Sheets,
+    state: &mut State,
     found: &mut [u8; FOUND_VALUES],
-    line: Option<Event>,
-) -> Reply
-    requires { SomeRun h servers.now tasks.now used.old elapsed.old waiting.old runs.old
-        × (found.old ≡ none_found) }
-    ensures { LineTaken h servers.now tasks.now line
-        used.old elapsed.old waiting.old runs.old
-        used.new elapsed.new waiting.new runs.new found.new result }
+    line: &[u64; LINE_VALUES],
+) -> Told
+    requires { SomeRun sheets.now state.old × (found.old ≡ none_found) }
+    ensures { LineTaken sheets.now (line_said (get_or line.now 0 0) (get_or line.now 1 0))
+        state.old state.new found.new result }
 {
-    match line {
-        Some(e) => {
-            let d = event::event_in(h, servers, tasks, used, elapsed, waiting, runs, found, e);
-            let answer = d.answer;
-            let head = d.head;
-            let told = events::told_of(answer);
-            Reply { told, head }
-        }
-        None => {
-            let number = table::number_of(Refusal::Malformed);
-            Reply {
-                told: Told::No(number),
-                head: h,
-            }
-        }
+    match events::line_said(line[0], line[1]) {
+        Some(e) => events::told_of(event::event_in(sheets, state, found, e)),
+        None => Told::No(table::number_of(Refusal::Malformed)),
     }
 }
 
-// The lines one after the other: the head after them.
-fn answer_lines(
-    h: Head,
-    servers: &[u32; SERVER_CELLS],
-    tasks: &[u32; TASK_CELLS],
-    used: &mut [u32; SERVERS],
-    elapsed: &mut [u32; SERVERS],
-    waiting: &mut [u8; TASKS],
-    runs: &mut [u32; TASKS],
-    lines: &[u64],
-    told: &mut [u64],
-) -> Head
-    requires { (length lines.now / 2 ≤ length told.old / 9)
-        × SomeRun h servers.now tasks.now used.old elapsed.old waiting.old runs.old }
-    ensures { LinesTaken h servers.now tasks.now lines.now told.old
-        used.old elapsed.old waiting.old runs.old
-        used.new elapsed.new waiting.new runs.new result told.new }
+// The lines one after the other.
+fn answer_lines(sheets: &Sheets, state: &mut State, lines: &[u64], told: &mut [u64])
+    requires { (length lines.now / 2 ≤ length told.old / 9) × SomeRun sheets.now state.old }
+    ensures { LinesTaken sheets.now lines.now state.old told.old state.new told.new }
 {
-    let mut head = h;
-    let n = lines.len() / LINE_VALUES;
-    for i in 0..n {
-        let at = LINE_VALUES * i;
-        let line = events::line_said(lines[at], lines[at + 1]);
+    let (pairs, _) = lines.as_chunks::<LINE_VALUES>();
+    for (i, line) in pairs.iter().enumerate() {
         let mut seen = [0u8; FOUND_VALUES];
-        let r = answer_line(
-            head, servers, tasks, used, elapsed, waiting, runs, &mut seen, line,
-        );
-        head = r.head;
-        let x = r.told;
+        let x = answer_line(sheets, state, &mut seen, line);
         events::put_told(x, told, TOLD_VALUES * i);
     }
-    head
 }
 
-fn is_tick(x: Told) -> bool
-    ensures { result ≡ is_tick x }
-{
-    match x {
-        Told::No(_) => false,
-        Told::Released(_) => false,
-        Told::Ticked(_) => true,
-    }
-}
-
-// Of a tick that is taken, what was told of it and what was found at it, put behind that of m ticks
-// before it: how many ticks there are then.
-fn put_tick(
-    x: Told,
-    seen: &[u8; FOUND_VALUES],
-    told: &mut [u64],
-    found: &mut [u8],
-    m: usize,
-) -> usize
-    requires { (length seen.now ≡ 96) × (9 * (m + 1) ≤ length told.old) × (96 * (m + 1) ≤ length found.old) }
-    ensures { Puts x seen.now told.old found.old m
-        told.new found.new result }
-{
-    if !is_tick(x) {
-        return m;
-    }
-    events::put_told(x, told, TOLD_VALUES * m);
-    put_found(seen, found, FOUND_VALUES * m);
-    m + 1
-}
-
-// The lines one after the other, and the ticks taken among them put into the lent rooms.
+// The lines one after the other, and the ticks taken among them put into the lent rooms: how many
+// ticks they are.
+// Kept: ticks counts the lines that are ticks, and no iterator counts those alone.
 fn find_lines(
-    h: Head,
-    servers: &[u32; SERVER_CELLS],
-    tasks: &[u32; TASK_CELLS],
-    used: &mut [u32; SERVERS],
-    elapsed: &mut [u32; SERVERS],
-    waiting: &mut [u8; TASKS],
-    runs: &mut [u32; TASKS],
+    sheets: &Sheets,
+    state: &mut State,
     lines: &[u64],
     told: &mut [u64],
     found: &mut [u8],
-) -> Passed
-    requires { (length lines.now / 2 ≤ length told.old / 9) × (length lines.now / 2 ≤ length found.old / 96)
-        × SomeRun h servers.now tasks.now used.old elapsed.old waiting.old runs.old }
-    ensures { LinesFound h servers.now tasks.now lines.now
-        told.old found.old
-        used.old elapsed.old waiting.old runs.old
-        used.new elapsed.new waiting.new runs.new result
-        told.new found.new }
+) -> usize
+    requires { (length lines.now / 2 ≤ length told.old / 9)
+        × (length lines.now / 2 ≤ length found.old / 96)
+        × SomeRun sheets.now state.old }
+    ensures { LinesFound sheets.now lines.now state.old told.old found.old
+        state.new result told.new found.new }
 {
-    let mut head = h;
+    let (pairs, _) = lines.as_chunks::<LINE_VALUES>();
     let mut ticks = 0;
-    let n = lines.len() / LINE_VALUES;
-    for i in 0..n {
-        let at = LINE_VALUES * i;
-        let line = events::line_said(lines[at], lines[at + 1]);
+    for line in pairs {
         let mut seen = [0u8; FOUND_VALUES];
-        let r = answer_line(
-            head, servers, tasks, used, elapsed, waiting, runs, &mut seen, line,
-        );
-        head = r.head;
-        let x = r.told;
-        ticks = put_tick(x, &seen, told, found, ticks);
+        let x = answer_line(sheets, state, &mut seen, line);
+        if let Told::Ticked(_) = x {
+            events::put_told(x, told, TOLD_VALUES * ticks);
+            found[FOUND_VALUES * ticks..FOUND_VALUES * (ticks + 1)].copy_from_slice(&seen);
+            ticks += 1;
+        }
     }
-    Passed { head, ticks }
+    ticks
+}
+
+// Many event lines on a run: 13, then 12, are why none of them is taken.
+fn answer_in(run: &mut Run, lines: &[u64], told: &mut [u64]) -> Result<(), Refusal>
+    ensures { record { many = record { answer = result; run = run.new }; room = told.new }
+        ≡ many_of run.old lines.now told.old }
+{
+    let sheets = open(*run)?;
+    if told.len() / TOLD_VALUES < lines.len() / LINE_VALUES {
+        return Err(Refusal::RoomShort);
+    }
+    answer_lines(&sheets, &mut run.state, lines, told);
+    Ok(())
 }
 
 // What is told to many event lines stands at the front of the lent room, nine numbers a line.
@@ -187,103 +98,47 @@ fn find_lines(
 pub fn answer_many(r: Run, lines: &[u64], told: &mut [u64]) -> Many<Run>
     ensures { record { many = result; room = told.new } ≡ many_of r lines.now told.old }
 {
-    let t = r.table;
-    let s = r.state;
-    if !soundness::run_sound(t, s) {
-        return Many {
-            answer: Err(Refusal::Unsound),
-            run: r,
-        };
-    }
-    if told.len() / TOLD_VALUES < lines.len() / LINE_VALUES {
-        return Many {
-            answer: Err(Refusal::RoomShort),
-            run: r,
-        };
-    }
-    let h = parts::head_of(t, s);
-    let mut used = s.used;
-    let mut elapsed = s.elapsed;
-    let mut waiting = s.waiting;
-    let mut runs = s.runs;
-    let rows = t.servers;
-    let ks = t.tasks;
-    let servers = sheets::server_sheet(rows);
-    let tasks = sheets::task_sheet(ks);
-    let head = answer_lines(
-        h,
-        &servers,
-        &tasks,
-        &mut used,
-        &mut elapsed,
-        &mut waiting,
-        &mut runs,
-        lines,
-        told,
-    );
-    let run = parts::run_of(t, head, used, elapsed, waiting, runs);
-    Many {
-        answer: Ok(()),
-        run,
-    }
+    let mut run = r;
+    let answer = answer_in(&mut run, lines, told);
+    Many { answer, run }
 }
 
-// Many event lines once more. Of the ticks taken among them, one after the other, what is told stands
-// at the front of one lent room, nine numbers a tick, and what steps 5 and 2 find at the front of
-// another, 96 numbers a tick. Refused: 13, then 12 if either room is short.
+// The same with what is found: how many ticks were taken, or 13, then 12.
+fn find_in(
+    run: &mut Run,
+    lines: &[u64],
+    told: &mut [u64],
+    found: &mut [u8],
+) -> Result<usize, Refusal>
+    ensures { record { finding = finding_of run.new result; told = told.new; found = found.new }
+        ≡ find_of run.old lines.now told.old found.old }
+{
+    let sheets = open(*run)?;
+    let n = lines.len() / LINE_VALUES;
+    if told.len() / TOLD_VALUES < n || found.len() / FOUND_VALUES < n {
+        return Err(Refusal::RoomShort);
+    }
+    Ok(find_lines(&sheets, &mut run.state, lines, told, found))
+}
+
+// Many event lines once more. Of the ticks taken among them, one after the other, what is told
+// stands at the front of one lent room, nine numbers a tick, and what steps 5 and 2 find at the
+// front of another, 96 numbers a tick. Refused: 13, then 12 if either room is short.
 pub fn find_many(r: Run, lines: &[u64], told: &mut [u64], found: &mut [u8]) -> Finding
     ensures { record { finding = result; told = told.new; found = found.new }
         ≡ find_of r lines.now told.old found.old }
 {
-    let t = r.table;
-    let s = r.state;
-    if !soundness::run_sound(t, s) {
-        return Finding {
-            answer: Err(Refusal::Unsound),
-            run: r,
+    let mut run = r;
+    match find_in(&mut run, lines, told, found) {
+        Ok(ticks) => Finding {
+            answer: Ok(()),
+            run,
+            ticks,
+        },
+        Err(why) => Finding {
+            answer: Err(why),
+            run,
             ticks: 0,
-        };
-    }
-    if told.len() / TOLD_VALUES < lines.len() / LINE_VALUES {
-        return Finding {
-            answer: Err(Refusal::RoomShort),
-            run: r,
-            ticks: 0,
-        };
-    }
-    if found.len() / FOUND_VALUES < lines.len() / LINE_VALUES {
-        return Finding {
-            answer: Err(Refusal::RoomShort),
-            run: r,
-            ticks: 0,
-        };
-    }
-    let h = parts::head_of(t, s);
-    let mut used = s.used;
-    let mut elapsed = s.elapsed;
-    let mut waiting = s.waiting;
-    let mut runs = s.runs;
-    let rows = t.servers;
-    let ks = t.tasks;
-    let servers = sheets::server_sheet(rows);
-    let tasks = sheets::task_sheet(ks);
-    let d = find_lines(
-        h,
-        &servers,
-        &tasks,
-        &mut used,
-        &mut elapsed,
-        &mut waiting,
-        &mut runs,
-        lines,
-        told,
-        found,
-    );
-    let head = d.head;
-    let run = parts::run_of(t, head, used, elapsed, waiting, runs);
-    Finding {
-        answer: Ok(()),
-        run,
-        ticks: d.ticks,
+        },
     }
 }

@@ -1,36 +1,27 @@
 // Steps 1 to 4 of a tick. (01, What one tick does.)
 
-ghost use Rattle.std.specs.Prelude.{◌≡◌, ◌+◌, ◌≤◌, ◌<◌, get_or, if◌then◌else◌};
+ghost use Rattle.std.specs.Prelude.{◌≡◌, ◌≤◌, get_or};
 ghost use Rattle.laws.specs.Rows.{anew, any_below, sum_below};
 ghost use Rattle.run.specs.Tick.{counts_as, raises, raised, enters};
 ghost use Rattle.scheduler.specs.Inner.Steps.{Judges, RanJob, Marks, none_found, kept_of};
-ghost use Rattle.scheduler.specs.Inner.Steps.{gone_of, noted_of, Discards, waits_at, is_n, SettlesMode};
+ghost use Rattle.scheduler.specs.Inner.Steps.{gone_of, noted_of, Discards, waits_at, SettlesMode};
 ghost use Rattle.scheduler.specs.Inner.Steps.{Refills, Few, Settles};
 
-use crate::parts::Head;
-use crate::sheets;
-use crate::sheets::{LEVEL, LIMIT_D1, LIMIT_D2, LIMIT_N, PERIOD, SERVER_CELLS, TASK_CELLS};
+use crate::count_if;
+use crate::sheets::{PERIOD, Sheets};
 use events::Left;
-use run::{FOUND_VALUES, Judged};
+use run::{FOUND_VALUES, Judged, State};
 use table::{ByMode, Level, Mode, SERVERS, TASKS};
 use units::Ticks;
 
-// The mode after step 1, and the job that left.
-#[derive(Clone, Copy)]
-pub struct Risen {
-    pub mode: Mode,
-    pub left: Left,
-}
-
-// What steps 1 to 4 tell: the mode that step 5 finds, the job that left, and how many were
-// discarded.
+// What steps 1 to 4 tell: the job that left, and how many were discarded.
 #[derive(Clone, Copy)]
 pub struct Settling {
-    pub mode: Mode,
     pub left: Left,
     pub discarded: u32,
 }
 
+// Kept: a rule of step 1, not what a Mode is: as a From it would hold everywhere.
 // "N counting as LO and D1 as MI", and D2 as HI
 fn counts_as(m: Mode) -> Level
     ensures { result ≡ counts_as m }
@@ -46,7 +37,7 @@ fn counts_as(m: Mode) -> Level
 fn raises(m: Mode, l: Level) -> bool
     ensures { result ≡ raises m l }
 {
-    sheets::level_height(counts_as(m)) < sheets::level_height(l)
+    counts_as(m) < l
 }
 
 fn raised(m: Mode) -> Mode
@@ -54,8 +45,7 @@ fn raised(m: Mode) -> Mode
 {
     match m {
         Mode::N => Mode::D1,
-        Mode::D1 => Mode::D2,
-        Mode::D2 => Mode::D2,
+        Mode::D1 | Mode::D2 => Mode::D2,
     }
 }
 
@@ -75,94 +65,56 @@ fn judge_job(x: ByMode<Ticks>, l: Level, c: u32, m: Mode) -> Judged
     Judged { mode, cut: false }
 }
 
-fn limits_of(tasks: &[u32; TASK_CELLS], k: usize) -> ByMode<Ticks>
-    requires { k < 64 }
-    ensures { result ≡ record {
-      n = record { 0 = get_or tasks.now (256 + k) 0 };
-      d1 = record { 0 = get_or tasks.now (320 + k) 0 };
-      d2 = record { 0 = get_or tasks.now (384 + k) 0 };
-    } }
+// Step 1: the job that left.
+fn mark_job(sheets: &Sheets, state: &mut State, mark: bool) -> Left
+    requires { Few sheets.now × RanJob sheets.now state.old.waiting state.old.last }
+    ensures { Marks sheets.now mark state.old state.new result }
 {
-    ByMode {
-        n: Ticks(tasks[LIMIT_N + k]),
-        d1: Ticks(tasks[LIMIT_D1 + k]),
-        d2: Ticks(tasks[LIMIT_D2 + k]),
-    }
-}
-
-// Step 1.
-fn mark_job(
-    h: Head,
-    tasks: &[u32; TASK_CELLS],
-    waiting: &mut [u8; TASKS],
-    runs: &mut [u32; TASKS],
-    mark: bool,
-) -> Risen
-    requires { Few h × RanJob h waiting.old }
-    ensures { Marks h tasks.now mark waiting.old runs.old
-        waiting.new runs.new result }
-{
-    let m = h.mode;
-    let k = h.task;
-    if !h.ran {
-        return Risen {
-            mode: m,
-            left: Left::Nobody,
-        };
-    }
+    let Some(k) = state.last else {
+        return Left::Nobody;
+    };
     if mark {
-        queues::leave(k, waiting, runs);
-        return Risen {
-            mode: m,
-            left: Left::Done(k),
-        };
+        queues::leave(k, &mut state.waiting, &mut state.runs);
+        return Left::Done(k);
     }
-    let x = limits_of(tasks, k);
-    let l = sheets::level_in(sheets::task_cell(tasks, LEVEL, k));
-    let j = judge_job(x, l, runs[k], m);
-    let after = j.mode;
-    if j.cut {
-        queues::leave(k, waiting, runs);
-        return Risen {
-            mode: after,
-            left: Left::Cut(k),
-        };
+    let judged = judge_job(sheets.limits(k), sheets.level(k), state.runs[k], state.mode);
+    state.mode = judged.mode;
+    if judged.cut {
+        queues::leave(k, &mut state.waiting, &mut state.runs);
+        return Left::Cut(k);
     }
-    Risen {
-        mode: after,
-        left: Left::Nobody,
-    }
+    Left::Nobody
 }
 
 // Whether step 2 has anything to do: the mode was not D2 and is.
 fn enters_d2(before: Mode, after: Mode) -> bool
     ensures { result ≡ enters before after }
 {
-    if table::is_d2(after) {
-        return !table::is_d2(before);
-    }
-    false
+    table::is_d2(after) && !table::is_d2(before)
 }
 
+// Kept: drop_low and refill count rows, which stand in a column and in several counts at once.
+
 // The jobs of every LO task are discarded, and counted; of each task is noted what was discarded of
-// it. n tasks are in use.
+// it.
 fn drop_low(
-    n: usize,
-    tasks: &[u32; TASK_CELLS],
+    sheets: &Sheets,
     waiting: &mut [u8; TASKS],
     runs: &mut [u32; TASKS],
     found: &mut [u8; FOUND_VALUES],
 ) -> u32
-    requires { (n ≤ 64) × (found.old ≡ none_found) }
-    ensures { (waiting.new ≡ anew n (kept_of tasks.now) waiting.old)
-        × (runs.new ≡ anew n (kept_of tasks.now) runs.old)
-        × (result ≡ sum_below n (λ k. gone_of tasks.now k (get_or waiting.old k 0)))
-        × (found.new ≡ noted_of n (λ k. gone_of tasks.now k (get_or waiting.old k 0))) }
+    requires { (sheets.now.ntasks ≤ 64) × (found.old ≡ none_found) }
+    ensures { (waiting.new ≡ anew sheets.now.ntasks (kept_of sheets.now) waiting.old)
+        × (runs.new ≡ anew sheets.now.ntasks (kept_of sheets.now) runs.old)
+        × (result
+        ≡ sum_below sheets.now.ntasks (λ k. gone_of sheets.now k (get_or waiting.old k 0)))
+        × (found.new
+        ≡ noted_of sheets.now.ntasks (λ k. gone_of sheets.now k (get_or waiting.old k 0))) }
 {
     let mut count: u32 = 0;
-    for k in 0..n {
-        if sheets::task_cell(tasks, LEVEL, k) == 0 {
-            count += queues::job_count(waiting[k]);
+    for k in 0..sheets.ntasks {
+        if table::is_low(sheets.level(k)) {
+            count += u32::from(waiting[k]);
             found[SERVERS + k] = waiting[k];
             waiting[k] = 0;
             runs[k] = 0;
@@ -171,120 +123,70 @@ fn drop_low(
     count
 }
 
-// Step 2: how many were discarded. The head is that after step 1, and the mode was `before`.
-fn discard(
-    h: Head,
-    before: Mode,
-    tasks: &[u32; TASK_CELLS],
-    waiting: &mut [u8; TASKS],
-    runs: &mut [u32; TASKS],
-    found: &mut [u8; FOUND_VALUES],
-) -> u32
-    requires { (h.ntasks ≤ 64) × (found.old ≡ none_found) }
-    ensures { Discards h before tasks.now waiting.old runs.old
-        waiting.new runs.new found.new result }
+// Step 2, after step 1: how many were discarded. The mode was `before`.
+fn discard(sheets: &Sheets, state: &mut State, before: Mode, found: &mut [u8; FOUND_VALUES]) -> u32
+    requires { (sheets.now.ntasks ≤ 64) × (found.old ≡ none_found) }
+    ensures { Discards sheets.now before state.old state.new found.new result }
 {
-    let after = h.mode;
-    if !enters_d2(before, after) {
+    if !enters_d2(before, state.mode) {
         return 0;
     }
-    drop_low(h.ntasks, tasks, waiting, runs, found)
+    drop_low(sheets, &mut state.waiting, &mut state.runs, found)
 }
 
-// Whether some job waits.
+// Whether some job of the first n tasks waits.
 fn some_waits(n: usize, waiting: &[u8; TASKS]) -> bool
     requires { n ≤ 64 }
     ensures { result ≡ any_below n (waits_at waiting.now) }
 {
-    for k in 0..n {
-        if 0 < waiting[k] {
+    for w in &waiting[..n] {
+        if 0 < *w {
             return true;
         }
     }
     false
 }
 
-fn is_n(m: Mode) -> bool
-    ensures { result ≡ is_n m }
+// Step 3. In N there is nothing to ask.
+fn settle_mode(sheets: &Sheets, state: &mut State)
+    requires { sheets.now.ntasks ≤ 64 }
+    ensures { SettlesMode sheets.now state.old state.new }
 {
-    match m {
-        Mode::N => true,
-        Mode::D1 => false,
-        Mode::D2 => false,
+    if state.mode == Mode::N {
+        return;
+    }
+    if !some_waits(sheets.ntasks, &state.waiting) {
+        state.mode = Mode::N;
     }
 }
 
-// Step 3: the mode after it. In N there is nothing to ask.
-fn settled_mode(h: Head, waiting: &[u8; TASKS]) -> Mode
-    requires { h.ntasks ≤ 64 }
-    ensures { SettlesMode h waiting.now result }
+// Step 4.
+fn refill(sheets: &Sheets, used: &mut [u32; SERVERS], elapsed: &mut [u32; SERVERS])
+    requires { sheets.now.nservers ≤ 32 }
+    ensures { Refills sheets.now used.old elapsed.old used.new elapsed.new }
 {
-    let m = h.mode;
-    if is_n(m) {
-        return m;
-    }
-    if some_waits(h.ntasks, waiting) {
-        return m;
-    }
-    Mode::N
-}
-
-// What is left of a count, its server's period being over or not.
-fn left_of(over: bool, x: u32) -> u32
-    ensures { result ≡ (if over then 0 else x) }
-{
-    if over {
-        return 0;
-    }
-    x
-}
-
-// Step 4. n servers are in use.
-fn refill(
-    n: usize,
-    servers: &[u32; SERVER_CELLS],
-    used: &mut [u32; SERVERS],
-    elapsed: &mut [u32; SERVERS],
-)
-    requires { n ≤ 32 }
-    ensures { Refills n servers.now used.old elapsed.old
-        used.new elapsed.new }
-{
-    for i in 0..n {
-        let over = elapsed[i] == sheets::server_cell(servers, PERIOD, i);
-        used[i] = left_of(over, used[i]);
-        elapsed[i] = left_of(over, elapsed[i]);
+    for i in 0..sheets.nservers {
+        let goes_on = elapsed[i] != sheets.servers[PERIOD + i];
+        used[i] = count_if(goes_on, used[i]);
+        elapsed[i] = count_if(goes_on, elapsed[i]);
     }
 }
 
 // Steps 1 to 4.
 pub(crate) fn settle(
-    h: Head,
-    servers: &[u32; SERVER_CELLS],
-    tasks: &[u32; TASK_CELLS],
-    used: &mut [u32; SERVERS],
-    elapsed: &mut [u32; SERVERS],
-    waiting: &mut [u8; TASKS],
-    runs: &mut [u32; TASKS],
+    sheets: &Sheets,
+    state: &mut State,
     found: &mut [u8; FOUND_VALUES],
     mark: bool,
 ) -> Settling
-    requires { Few h × RanJob h waiting.old × (found.old ≡ none_found) }
-    ensures { Settles h servers.now tasks.now mark
-        used.old elapsed.old waiting.old runs.old
-        used.new elapsed.new waiting.new runs.new found.new result }
+    requires { Few sheets.now × RanJob sheets.now state.old.waiting state.old.last
+        × (found.old ≡ none_found) }
+    ensures { Settles sheets.now mark state.old state.new found.new result }
 {
-    let before = h.mode;
-    let m = mark_job(h, tasks, waiting, runs, mark);
-    let risen = m.mode;
-    let left = m.left;
-    let after = Head { mode: risen, ..h };
-    let discarded = discard(after, before, tasks, waiting, runs, found);
-    let mode = settled_mode(after, waiting);
-    refill(h.nservers, servers, used, elapsed);
-    Settling {
-        mode,
-        left,
-        discarded,
-    }
+    let before = state.mode;
+    let left = mark_job(sheets, state, mark);
+    let discarded = discard(sheets, state, before, found);
+    settle_mode(sheets, state);
+    refill(sheets, &mut state.used, &mut state.elapsed);
+    Settling { left, discarded }
 }

@@ -2,130 +2,141 @@
 // only the columns that a step reads. So a step is lent two arrays, and what it does not read stays
 // away from it.
 
-ghost use Rattle.std.specs.Prelude.{◌≡◌, ◌+◌, ◌<◌, length, get_or, set};
+ghost use Rattle.std.specs.Prelude.{◌≡◌, ◌+◌, ◌<◌, length, get_or};
 ghost use Rattle.table.specs.Rows.{no_server, no_task};
-ghost use Rattle.run.specs.Tick.{height};
-ghost use Rattle.scheduler.specs.Inner.Columns.{kind_number, level_in, server_cells, task_cells, written, OnSheet};
+ghost use Rattle.scheduler.specs.Inner.Columns.{level_of, limits_of, timed_of, SheetsOf};
+ghost use Rattle.scheduler.specs.Inner.Columns.{server_cells, task_cells, written, OnSheet};
 
-use table::{Kind, Level, SERVERS, Server, TASKS, Task};
+use table::{ByMode, Level, SERVERS, Server, TASKS, Table, Task};
+use units::Ticks;
+
+// Kept: a row's numbers, kind and level among them, stand in columns (docs/SPEED.md, What costs).
 
 // Where each column begins.
 pub(crate) const SERVER_PRIORITY: usize = 0;
 
-pub(crate) const KIND: usize = SERVERS;
+const KIND: usize = SERVERS;
 
 pub(crate) const PERIOD: usize = 2 * SERVERS;
 
-pub(crate) const CAPACITY_N: usize = 3 * SERVERS;
+const CAPACITY_N: usize = 3 * SERVERS;
 
-pub(crate) const CAPACITY_D1: usize = 4 * SERVERS;
+const CAPACITY_D1: usize = 4 * SERVERS;
 
-pub(crate) const CAPACITY_D2: usize = 5 * SERVERS;
+const CAPACITY_D2: usize = 5 * SERVERS;
 
 pub(crate) const PHASE: usize = 6 * SERVERS;
 
-pub(crate) const SERVER_CELLS: usize = 7 * SERVERS;
+const SERVER_CELLS: usize = 7 * SERVERS;
 
-pub(crate) const HOME: usize = 0;
+const HOME: usize = 0;
 
-pub(crate) const DEGRADED: usize = TASKS;
+const DEGRADED: usize = TASKS;
 
 pub(crate) const TASK_PRIORITY: usize = 2 * TASKS;
 
-pub(crate) const LEVEL: usize = 3 * TASKS;
+const LEVEL: usize = 3 * TASKS;
 
-pub(crate) const LIMIT_N: usize = 4 * TASKS;
+const LIMIT_N: usize = 4 * TASKS;
 
-pub(crate) const LIMIT_D1: usize = 5 * TASKS;
+const LIMIT_D1: usize = 5 * TASKS;
 
-pub(crate) const LIMIT_D2: usize = 6 * TASKS;
+const LIMIT_D2: usize = 6 * TASKS;
 
-pub(crate) const TASK_CELLS: usize = 7 * TASKS;
+const TASK_CELLS: usize = 7 * TASKS;
 
-// Row i of the column that begins there.
-pub(crate) fn server_cell(servers: &[u32; SERVER_CELLS], column: usize, i: usize) -> u32
-    requires { column + i < 224 }
-    ensures { result ≡ get_or servers.now (column + i) 0 }
-{
-    servers[column + i]
+// "In N a task belongs to its home, else to its degraded server.": the column of the owners.
+pub(crate) const OWNERS: ByMode<usize> = ByMode {
+    n: HOME,
+    d1: DEGRADED,
+    d2: DEGRADED,
+};
+
+// The column of the capacities.
+pub(crate) const CAPACITIES: ByMode<usize> = ByMode {
+    n: CAPACITY_N,
+    d1: CAPACITY_D1,
+    d2: CAPACITY_D2,
+};
+
+// What a step is lent of a table: its sheets, and how many rows of each are in use.
+// Kept: a step asks of the sheets what it needs, so that it holds of every table they show.
+#[derive(Clone, Copy)]
+pub struct Sheets {
+    pub nservers: usize,
+    pub ntasks: usize,
+    pub servers: [u32; SERVER_CELLS],
+    pub tasks: [u32; TASK_CELLS],
 }
 
-pub(crate) fn task_cell(tasks: &[u32; TASK_CELLS], column: usize, k: usize) -> u32
-    requires { column + k < 448 }
-    ensures { result ≡ get_or tasks.now (column + k) 0 }
-{
-    tasks[column + k]
-}
+impl Sheets {
+    pub(crate) fn of(t: &Table) -> Sheets
+        ensures { SheetsOf t.now result }
+    {
+        Sheets {
+            nservers: t.nservers,
+            ntasks: t.ntasks,
+            servers: server_sheet(&t.servers),
+            tasks: task_sheet(&t.tasks),
+        }
+    }
 
-fn put_server_cell(servers: &mut [u32; SERVER_CELLS], column: usize, i: usize, v: u32)
-    requires { column + i < 224 }
-    ensures { servers.new ≡ set servers.old (column + i) v }
-{
-    servers[column + i] = v;
-}
+    // Of task k.
+    // Kept: a cell of this column is 0 to 2, so a TryFrom would refuse what never stands there.
+    pub(crate) fn level(&self, k: usize) -> Level
+        requires { k < 64 }
+        ensures { result ≡ level_of self.now k }
+    {
+        match self.tasks[LEVEL + k] {
+            0 => Level::LO,
+            1 => Level::MI,
+            _ => Level::HI,
+        }
+    }
 
-fn put_task_cell(tasks: &mut [u32; TASK_CELLS], column: usize, k: usize, v: u32)
-    requires { column + k < 448 }
-    ensures { tasks.new ≡ set tasks.old (column + k) v }
-{
-    tasks[column + k] = v;
-}
+    // Of task k.
+    pub(crate) fn limits(&self, k: usize) -> ByMode<Ticks>
+        requires { k < 64 }
+        ensures { result ≡ limits_of self.now k }
+    {
+        ByMode {
+            n: Ticks(self.tasks[LIMIT_N + k]),
+            d1: Ticks(self.tasks[LIMIT_D1 + k]),
+            d2: Ticks(self.tasks[LIMIT_D2 + k]),
+        }
+    }
 
-fn kind_number(k: Kind) -> u32
-    ensures { result ≡ kind_number k }
-{
-    match k {
-        Kind::Event => 0,
-        Kind::Timed => 1,
+    // Of server i.
+    pub(crate) fn is_timed(&self, i: usize) -> bool
+        requires { i < 32 }
+        ensures { result ≡ timed_of self.now i }
+    {
+        self.servers[KIND + i] != 0
     }
 }
 
-// How high a level lies.
-pub(crate) fn level_height(l: Level) -> u32
-    ensures { result ≡ height l }
-{
-    match l {
-        Level::LO => 0,
-        Level::MI => 1,
-        Level::HI => 2,
-    }
-}
-
-pub(crate) fn level_in(x: u32) -> Level
-    ensures { result ≡ level_in x }
-{
-    if x == 0 {
-        return Level::LO;
-    }
-    if x == 1 {
-        return Level::MI;
-    }
-    Level::HI
-}
+// Kept: a sheet for each kind of row, since the rows' fields differ: a trait would be longer.
 
 fn put_server(sheet: &mut [u32; SERVER_CELLS], i: usize, s: Server)
     requires { i < 32 }
     ensures { sheet.new ≡ written 32 0 (server_cells s) i sheet.old }
 {
-    let c = s.capacity;
-    let k = s.kind;
-    let kind = kind_number(k);
-    put_server_cell(sheet, SERVER_PRIORITY, i, s.priority as u32);
-    put_server_cell(sheet, KIND, i, kind);
-    put_server_cell(sheet, PERIOD, i, s.period.0);
-    put_server_cell(sheet, CAPACITY_N, i, c.n.0);
-    put_server_cell(sheet, CAPACITY_D1, i, c.d1.0);
-    put_server_cell(sheet, CAPACITY_D2, i, c.d2.0);
-    put_server_cell(sheet, PHASE, i, s.phase.0);
+    sheet[SERVER_PRIORITY + i] = u32::from(s.priority);
+    sheet[KIND + i] = s.kind as u32;
+    sheet[PERIOD + i] = s.period.0;
+    sheet[CAPACITY_N + i] = s.capacity.n.0;
+    sheet[CAPACITY_D1 + i] = s.capacity.d1.0;
+    sheet[CAPACITY_D2 + i] = s.capacity.d2.0;
+    sheet[PHASE + i] = s.phase.0;
 }
 
-pub(crate) fn server_sheet(servers: [Server; SERVERS]) -> [u32; SERVER_CELLS]
-    ensures { (length servers ≡ 32) × OnSheet 32 7 (λ i. server_cells (get_or servers i no_server)) 32 result }
+fn server_sheet(servers: &[Server; SERVERS]) -> [u32; SERVER_CELLS]
+    ensures { (length servers.now ≡ 32)
+        × OnSheet 32 7 (λ i. server_cells (get_or servers.now i no_server)) 32 result }
 {
     let mut sheet = [0u32; SERVER_CELLS];
-    for i in 0..SERVERS {
-        let s = servers[i];
-        put_server(&mut sheet, i, s);
+    for (i, s) in servers.iter().enumerate() {
+        put_server(&mut sheet, i, *s);
     }
     sheet
 }
@@ -134,25 +145,22 @@ fn put_task(sheet: &mut [u32; TASK_CELLS], k: usize, t: Task)
     requires { k < 64 }
     ensures { sheet.new ≡ written 64 0 (task_cells t) k sheet.old }
 {
-    let x = t.limit;
-    let l = t.level;
-    let level = level_height(l);
-    put_task_cell(sheet, HOME, k, t.home as u32);
-    put_task_cell(sheet, DEGRADED, k, t.degraded as u32);
-    put_task_cell(sheet, TASK_PRIORITY, k, t.priority as u32);
-    put_task_cell(sheet, LEVEL, k, level);
-    put_task_cell(sheet, LIMIT_N, k, x.n.0);
-    put_task_cell(sheet, LIMIT_D1, k, x.d1.0);
-    put_task_cell(sheet, LIMIT_D2, k, x.d2.0);
+    sheet[HOME + k] = u32::from(t.home);
+    sheet[DEGRADED + k] = u32::from(t.degraded);
+    sheet[TASK_PRIORITY + k] = u32::from(t.priority);
+    sheet[LEVEL + k] = t.level as u32;
+    sheet[LIMIT_N + k] = t.limit.n.0;
+    sheet[LIMIT_D1 + k] = t.limit.d1.0;
+    sheet[LIMIT_D2 + k] = t.limit.d2.0;
 }
 
-pub(crate) fn task_sheet(tasks: [Task; TASKS]) -> [u32; TASK_CELLS]
-    ensures { (length tasks ≡ 64) × OnSheet 64 7 (λ k. task_cells (get_or tasks k no_task)) 64 result }
+fn task_sheet(tasks: &[Task; TASKS]) -> [u32; TASK_CELLS]
+    ensures { (length tasks.now ≡ 64)
+        × OnSheet 64 7 (λ k. task_cells (get_or tasks.now k no_task)) 64 result }
 {
     let mut sheet = [0u32; TASK_CELLS];
-    for k in 0..TASKS {
-        let t = tasks[k];
-        put_task(&mut sheet, k, t);
+    for (k, t) in tasks.iter().enumerate() {
+        put_task(&mut sheet, k, *t);
     }
     sheet
 }

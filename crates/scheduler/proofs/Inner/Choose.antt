@@ -1,9 +1,9 @@
 -- The highest marked row, kept as a priority and a row, 0 being nothing found: how a walk over
 -- tasks finds the highest of each server, and a walk over servers the highest that is able.
 -- Priorities of a table are at least 1. Assumes nothing.
-use Rattle.std.specs.Prelude.{if◌then◌else◌, Some}
+use Rattle.std.specs.Prelude.{if◌then◌else◌, None, Some}
 use mathlib.Core.Path.{◌≡◌, refl, sym, ap, ap₂, subst, ◌∙◌}
-use mathlib.Core.Bool.{Bool, true, false, not, ◌&&◌, ◌||◌}
+use mathlib.Core.Bool.{Bool, true, false, ◌&&◌, ◌||◌}
 use mathlib.Core.List.{List, ◌++◌}
 use mathlib.Core.Logic.{◌⊎◌, inl, inr}
 use Prim.Native.Nat.{ℕ, zero, suc, ◌+◌, ◌≤◌, ◌<◌}
@@ -15,9 +15,10 @@ use lib.Seq.{get_or-set_same, get_or-set_other, get_or-take, length-take-le, ext
 use borrow.Author.Tests.{lt-ltb, ltb-true, ltb-false, eq-eqb, ne_eqb}
 use Rattle.laws.specs.Rows.{any_below, highest, anew, found_by}
 use Rattle.laws.proofs.Anew.{length_anew, anew_at}
-use Rattle.laws.proofs.Choice.{and_left, and_right, and_true}
+use Rattle.std.specs.Cmp.{first_so, second_so}
+use Rattle.std.proofs.lemmas.Bool.{and_from}
 use Rattle.laws.proofs.Rows.{any_at, none_build}
-use Rattle.laws.proofs.Highest.{Top, top_none, top_skip, top_take, top_keep, top_is, found_there, highest_at, highest_none}
+use Rattle.laws.proofs.Highest.{Top, top_none, top_skip, top_take, top_keep, top_is, highest_at, highest_none}
 use Rattle.table.specs.declared.Mode.{Mode}
 use Rattle.table.specs.declared.Mode.TheVariants.{N, D1, D2}
 use Rattle.table.specs.declared.Table.{Table}
@@ -30,7 +31,8 @@ use Rattle.run.specs.State.{used_at, in_force, waiting_at, owner, waits_for, wai
 use Rattle.queues.specs.Queues.{turn_of}
 use Rattle.run.specs.Tick.{able, highest_able, highest_task, choose}
 use Rattle.events.proofs.Answers.{same_or_not}
-use Rattle.scheduler.specs.Inner.Columns.{ServersOn}
+use Rattle.scheduler.specs.declared.sheets.Sheets.{Sheets}
+use Rattle.scheduler.specs.Inner.Columns.{timed_of, ServersOn}
 use Rattle.scheduler.specs.Inner.Choose.{capacity_column, with_tops}
 use Rattle.scheduler.proofs.Inner.Columns.{timed_on, capacity_on, phase_on}
 
@@ -79,7 +81,7 @@ module _ (t : Table) (s : State) where
 
   its : (i k o : ℕ) → o ≡ owner s.mode (task_at t k) → i ≡ o → ltb 0 (waiting_at s k) ≡ true → waits_for t s i k ≡ true
   its i k o e d w =
-      and_true (ltb 0 (waiting_at s k)) (eqb (owner s.mode (task_at t k)) i) w
+      and_from (ltb 0 (waiting_at s k)) (eqb (owner s.mode (task_at t k)) i) w
       (eq-eqb (owner s.mode (task_at t k)) i (sym e ∙ sym d))
 
   not_its : (i k : ℕ) → ltb 0 (waiting_at s k) ≡ false → waits_for t s i k ≡ false
@@ -93,12 +95,12 @@ module _ (t : Table) (s : State) where
     tops_take lh lt l h q i b = rw f (go (same_or_not i o))
       where
         w : ltb 0 (waiting_at s k) ≡ true
-        w = and_left (ltb 0 (waiting_at s k)) (ltb (get_or height o 0) p) h
+        w = first_so (ltb 0 (waiting_at s k)) (ltb (get_or height o 0) p) h
 
         above : get_or height o 0 < task_priority_at t k
         above =
             subst (λ x. get_or height o 0 < x) f
-            (ltb-true (get_or height o 0) p (and_right (ltb 0 (waiting_at s k)) (ltb (get_or height o 0) p) h))
+            (ltb-true (get_or height o 0) p (second_so (ltb 0 (waiting_at s k)) (ltb (get_or height o 0) p) h))
 
         go : (i ≡ o) ⊎ (i ≡ o → ⊥) →
             Top (k + 1) (waits_for t s i) (task_priority_at t) (get_or (set height o (task_priority_at t k)) i 0)
@@ -153,19 +155,17 @@ module _ (t : Table) (s : State) where
   waits_found i height row e = found_some (waits_for t s i) (task_priority_at t) t.ntasks height row e
 
   -- a capacity and a phase from the sheet, and the ticks taken: the capacity in force
-  pub force_is : (xs : List ℕ) (i c p : ℕ) → ServersOn t xs → i < t.nservers →
-      c ≡ get_or xs (capacity_column s.mode + i) 0 → p ≡ get_or xs (192 + i) 0 →
+  pub force_is : (xs : Sheets) (i c p : ℕ) → ServersOn t xs → i < t.nservers →
+      c ≡ get_or xs.servers (capacity_column s.mode + i) 0 → p ≡ get_or xs.servers (192 + i) 0 →
       (if leb p s.ticks.0 then c else 0) ≡ in_force t s i
   unfolding in_force
   force_is xs i c p o h e f = rw (e, f, capacity_on t xs o i h s.mode, phase_on t xs o i h)
 
-  -- the test of the walk over servers: the capacity in force, a kind's number from the sheet, and
-  -- what the first walk found
-  pub able_is : (xs : List ℕ) (i b k w : ℕ) → ServersOn t xs → i < t.nservers → b ≡ in_force t s i →
-      k ≡ get_or xs (32 + i) 0 → ltb 0 w ≡ waits t s i →
-      (ltb (used_at s i) b && (not (eqb k 0) || ltb 0 w)) ≡ able t s i
+  -- the test of the walk over servers: the capacity in force, and what the first walk found
+  pub able_is : (xs : Sheets) (i b w : ℕ) → ServersOn t xs → i < t.nservers → b ≡ in_force t s i →
+      ltb 0 w ≡ waits t s i → (ltb (used_at s i) b && (timed_of xs i || ltb 0 w)) ≡ able t s i
   unfolding able
-  able_is xs i b k w p h e f g = rw (e, f, timed_on t xs p i h, g)
+  able_is xs i b w p h e g = rw (e, timed_on t xs p i h, g)
 
   pub able_found : (height row : ℕ) → Top t.nservers (able t s) (priority_at t) height row →
       found_by height row ≡ highest_able t s
@@ -173,22 +173,19 @@ module _ (t : Table) (s : State) where
   able_found height row p = top_is (able t s) (priority_at t) t.nservers height row p
 
   -- what is said at the end
-  pub says_idle : (height row : ℕ) → found_by height row ≡ highest_able t s → height ≡ 0 → Idle ≡ choose t s
+  pub says_idle : highest_able t s ≡ None → Idle ≡ choose t s
   unfolding choose
-  says_idle height row p e = rw (← p, e)
+  says_idle e = rw e
 
-  module _ (height row : ℕ) (p : found_by height row ≡ highest_able t s) (d : height ≡ 0 → ⊥) where
-    found_row : highest_able t s ≡ Some row
-    found_row = sym p ∙ found_there height row (omega arith)
-
+  module _ (row : ℕ) (p : highest_able t s ≡ Some row) where
     pub says_turn : (h x : ℕ) → found_by h x ≡ highest_task t s row → turn_of row (found_by h x) ≡ choose t s
     unfolding choose
-    says_turn h x q = rw found_row (ap (turn_of row) q)
+    says_turn h x q = rw p (ap (turn_of row) q)
 
     -- a row found is a row of the table
     pub row_there_lem : row < t.nservers
     unfolding highest_able
-    row_there_lem = (highest_at (able t s) (priority_at t) t.nservers row found_row).below
+    row_there_lem = (highest_at (able t s) (priority_at t) t.nservers row p).below
 
 pub owner_row : (t : Table) → TableRules t → (m : Mode) (k : ℕ) → k < t.ntasks → owner m (task_at t k) < t.nservers
 owner_row t r N k h = (r.task k h).home

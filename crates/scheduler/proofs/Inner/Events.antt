@@ -1,20 +1,18 @@
 -- A start, a release and a tick, case by case in the order of their refusals; and what a sound run
 -- says of its parts: the counts that a tick raises fit. Assumes nothing.
-use Rattle.std.proofs.Common.{Err, Ok}
+use Rattle.std.proofs.Common.{Err, Ok, None, Option, Some}
 use mathlib.Core.Path.{◌≡◌, sym, ap, ◌∙◌}
 use mathlib.Core.Bool.{Bool, true, false, not, ◌&&◌, ◌||◌}
 use mathlib.Core.List.{List}
 use Prim.Native.Nat.{ℕ, ◌≤◌, ◌<◌}
 use native.Mathlib.Omega.{arith}
 use lib.Dec.{eqb}
-use lib.ListN.{length, get_or}
 use borrow.Author.Tests.{lt-ltb, le-ltb, ltb-true}
 use Rattle.laws.proofs.Choice.{if_ind}
-use Rattle.table.specs.declared.Mode.{Mode}
 use Rattle.table.specs.declared.Table.{Table}
 use Rattle.table.specs.declared.Refusal.{Refusal}
 use Rattle.table.specs.declared.Refusal.TheVariants.{NoTask, LowInD2, QueueFull, NoJobRan, CountSpent, Unsound}
-use Rattle.table.specs.Rows.{no_server, no_task, period_at, task_at, is_low, is_d2}
+use Rattle.table.specs.Rows.{period_at, task_at, is_low, is_d2}
 use Rattle.table.specs.Rules.{table_keeps}
 use Rattle.table.specs.Inner.{Sized}
 use Rattle.table.proofs.Rules.{TableRules, table_rules}
@@ -36,20 +34,18 @@ use Rattle.run.specs.Found.{taken_by, top_priority, found_values}
 use Rattle.run.specs.Release.{refused, fresh_run, start_of, with_job, release_of}
 use Rattle.queues.specs.Queues.{ran_job}
 use Rattle.run.specs.Tick.{settle, choose, advance, tick_taken, tick_of}
-use Rattle.run.proofs.Shape.{Shaped}
-use Rattle.run.proofs.Sound.{StateSound, sound_table, sound_state_lem}
+use Rattle.run.proofs.Shape.{Shaped, settle_counts}
+use Rattle.run.proofs.Sound.{LastSound, StateSound, sound_table, sound_state_lem}
 use Rattle.run.proofs.Steps.{settled_row}
 use Rattle.events.proofs.Answers.{one_same}
 use Rattle.run.proofs.Tick.{charged_able, able_room, force_low, ran_front, elapsed_settled}
-use Rattle.scheduler.specs.declared.parts.Head.{Head}
 use Rattle.scheduler.specs.declared.settle.Settling.{Settling}
-use Rattle.scheduler.specs.Inner.Parts.{state_of, run_of, head_of, at_mode}
-use Rattle.scheduler.specs.Inner.Columns.{server_cells, task_cells, OnSheet}
-use Rattle.scheduler.specs.Inner.Steps.{Shows, Few, RanJob, none_found, noted_of, SettledSo}
+use Rattle.scheduler.specs.declared.sheets.Sheets.{Sheets}
+use Rattle.scheduler.specs.Inner.Columns.{SheetsOf}
+use Rattle.scheduler.specs.Inner.Steps.{Few, RanJob, none_found, noted_of, SettledSo}
 use Rattle.scheduler.specs.Inner.Steps.{ServerIn, TaskIn, ChargeFits, RunFits, CountsFit}
 use Rattle.scheduler.specs.Inner.Choose.{with_tops}
-use Rattle.scheduler.specs.Inner.Events.{SoundRun, FoundAt}
-use Rattle.scheduler.proofs.Inner.Parts.{parts_are}
+use Rattle.scheduler.specs.Inner.Events.{SoundRun, FoundAt, run_of}
 
 -- a start
 pub start_taken : (t : Table) → table_keeps t ≡ true → record { answer = Ok tt; run = fresh_run t } ≡ start_of t
@@ -157,66 +153,51 @@ pub event_unsound : (r : Run) (e : Event) → sound r ≡ false → refused r Un
 event_unsound r (Release k) q = release_unsound r k q
 event_unsound r (Tick mark) q = tick_unsound r mark q
 
--- A run with the head and the sheets of its parts is one that a step takes.
-pub sound_run : (t : Table) (s : State) (h : Head) (ss ks : List ℕ) → h ≡ head_of t s →
-    sound (record { table = t; state = s }) ≡ true → Shaped s →
-    (length t.servers ≡ 32) × OnSheet 32 7 (λ i. server_cells (get_or t.servers i no_server)) 32 ss →
-    (length t.tasks ≡ 64) × OnSheet 64 7 (λ k. task_cells (get_or t.tasks k no_task)) 64 ks →
-    SoundRun t h ss ks s.used s.elapsed s.waiting s.runs
-sound_run t s h ss ks q e l p g =
-    let z : Sized t = record { servers = p.0; tasks = g.0 } in
-    let keeps = sound_table (record { table = t; state = s }) e in
+-- A sound run with the sheets of its table is one that a step takes.
+pub sound_run : (t : Table) (s : State) (ss : Sheets) → SheetsOf t ss → sound (run_of t s) ≡ true → Shaped s → SoundRun t ss s
+sound_run t s ss q e l =
+    let z : Sized t = record { servers = q.servers.0; tasks = q.tasks.0 } in
+    let keeps = sound_table (run_of t s) e in
     let r = table_rules t z keeps in
     record {
       shows =
           record {
             keeps = keeps;
             sized = z;
-            counts = record { servers = ap (λ x. x.nservers) q; tasks = ap (λ x. x.ntasks) q };
-            servers = λ c i b d. p.1 c i b (omega (arith, r.servers_high));
-            tasks = λ c i b d. g.1 c i b (omega (arith, r.tasks_high));
+            servers = record { count = q.nservers; cells = λ c i b d. q.servers.1 c i b (omega (arith, r.servers_high)) };
+            tasks = record { count = q.ntasks; cells = λ c i b d. q.tasks.1 c i b (omega (arith, r.tasks_high)) };
           };
-      sound = rw (parts_are t s h q) e;
+      sound = e;
       used_long = l.used;
       elapsed_long = l.elapsed;
       waiting_long = l.waiting;
       runs_long = l.runs;
     }
 
--- What such a run says of its parts.
-module _ (t : Table) (h : Head) (ss ks u e w c : List ℕ) (p : SoundRun t h ss ks u e w c) where
+-- What such a run says.
+module _ (t : Table) (ss : Sheets) (s : State) (p : SoundRun t ss s) where
   pub rules : TableRules t
   rules = table_rules t p.shows.sized p.shows.keeps
 
-  pub shaped : Shaped (state_of h u e w c)
+  pub shaped : Shaped s
   shaped = record { used = p.used_long; elapsed = p.elapsed_long; waiting = p.waiting_long; runs = p.runs_long }
 
-  facts : StateSound t (state_of h u e w c)
-  facts = sound_state_lem (run_of t h u e w c) p.sound
+  facts : StateSound t s
+  facts = sound_state_lem (run_of t s) p.sound
 
-  pub few : Few h
+  pub few : Few ss
   few =
-      let n = p.shows.counts in
       record {
-        servers = omega (arith, n.servers, rules.servers_high);
-        tasks = omega (arith, n.tasks, rules.tasks_high);
+        servers = omega (arith, p.shows.servers.count, rules.servers_high);
+        tasks = omega (arith, p.shows.tasks.count, rules.tasks_high);
       }
 
-  pub ran_job_lem : RanJob h w
-  ran_job_lem r =
-      let q = rw r at facts.last in
-      (omega (arith, q.below, p.shows.counts.tasks), q.waits)
-
-  pub shows_at : (m : Mode) → Shows t (at_mode h m) ss ks
-  shows_at m =
-      let s = p.shows in
-      record {
-        keeps = s.keeps;
-        sized = s.sized;
-        counts = record { servers = s.counts.servers; tasks = s.counts.tasks };
-        servers = s.servers;
-        tasks = s.tasks;
-      }
+  pub ran_job_lem : RanJob ss s.waiting s.last
+  ran_job_lem = go s.last facts.last
+    where
+      go : (l : Option ℕ) → LastSound t s l → RanJob ss s.waiting l
+      go None q = tt
+      go (Some k) q = (omega (arith, q.below, p.shows.tasks.count), q.waits)
 
 -- The rows of a turn are rows of the table.
 pub server_in : (t : Table) (z : State) (turn : Turn) → turn ≡ choose t z → ServerIn t turn
@@ -262,22 +243,19 @@ module _ (t : Table) (s : State) (mark : Bool) (r : TableRules t) (h : Shaped s)
       (λ e. omega arith)
       (λ e. omega (arith, (f.servers i l).elapsed, (r.server i l).period_high)))
 
-pub room : (t : Table) (h : Head) (ss ks u e w c : List ℕ) (p : SoundRun t h ss ks u e w c) (mark : Bool)
-    (u' e' w' c' f' : List ℕ) (d : Settling) (turn : Turn) → SettledSo t h mark u e w c u' e' w' c' f' d →
-    turn ≡ choose t (state_of (at_mode h d.mode) u' e' w' c') → h.ticks.0 < 4000000000 →
-    CountsFit (at_mode h d.mode) turn u' e' c'
-room t h ss ks u e w c p mark u' e' w' c' f' d turn q g l =
-    let s = state_of h u e w c in
-    let z = state_of (at_mode h d.mode) u' e' w' c' in
-    let r = rules t h ss ks u e w c p in
-    let a = shaped t h ss ks u e w c p in
-    let f = sound_state_lem (run_of t h u e w c) p.sound in
+pub room : (t : Table) (ss : Sheets) (s : State) (p : SoundRun t ss s) (mark : Bool) (z : State) (f' : List ℕ)
+    (d : Settling) (turn : Turn) → SettledSo t mark s z f' d → turn ≡ choose t z → s.ticks.0 < 4000000000 →
+    CountsFit ss turn z
+room t ss s p mark z f' d turn q g l =
+    let r = rules t ss s p in
+    let a = shaped t ss s p in
+    let f = sound_state_lem (run_of t s) p.sound in
     record {
-      servers = (few t h ss ks u e w c p).servers;
+      servers = (few t ss s p).servers;
       charge = charge_fits t s mark r a f z turn g;
       run = rw q.state at (run_fits_lem t s mark r a f turn (g ∙ ap (choose t) (sym q.state)));
       elapsed =
           λ i b.
-          rw q.state at (elapsed_low t s mark r a f i (omega (arith, p.shows.counts.servers)));
-      ticks = l;
+          rw q.state at (elapsed_low t s mark r a f i (omega (arith, p.shows.servers.count)));
+      ticks = rw (sym (ap (λ y. y.ticks) q.state) ∙ (settle_counts t s mark).0) l;
     }

@@ -1,38 +1,41 @@
 -- Many event lines taken one after the other: after i of them the run, what was told and the rest
 -- of the room are what the definition says of the lines so far. Assumes nothing.
-use Rattle.std.proofs.Common.{Ok, Option}
+use Rattle.std.proofs.Common.{Ok, Option, if◌then◌else◌}
 use mathlib.Core.Path.{◌≡◌, refl, sym, ap, ap₂, subst, ◌∙◌}
-use mathlib.Core.Bool.{true, false}
+use mathlib.Core.Bool.{Bool, true, false}
 use mathlib.Core.List.{List, [], ◌∷◌, ◌++◌}
-use Prim.Native.Nat.{ℕ, ◌+◌, ◌*◌, ◌/◌, ◌≤◌, ◌<◌}
+use Prim.Native.Nat.{ℕ, zero, suc, ◌+◌, ◌*◌, ◌/◌, ◌≤◌, ◌<◌}
 use native.Mathlib.Omega.{arith}
-use native.Mathlib.Nat.{zero-add, add-zero}
-use lib.ListN.{length, drop, drop_of_length-le}
-use lib.Seq.{paste}
+use native.Mathlib.Nat.{add-zero}
+use lib.Dec.{lit<}
+use lib.ListN.{length, get_or, take, drop, drop_of_length-le}
+use lib.Seq.{paste, get_or-take}
+use Rattle.std.specs.Simd.{first_chunks}
+use Rattle.std.proofs.lemmas.List.{get_or-drop, drop-drop}
 use borrow.Author.Tests.{le-leb, lt-leb}
 use Rattle.laws.proofs.Choice.{if_ind}
 use Rattle.table.specs.declared.Table.{Table}
 use Rattle.table.specs.declared.Refusal.TheVariants.{RoomShort, Unsound}
 use Rattle.events.specs.Boxes.{after_lines_in}
 use Rattle.run.specs.declared.Run.{Run}
+use Rattle.events.specs.declared.TickAnswer.{TickAnswer}
 use Rattle.events.specs.declared.Told.{Told}
 use Rattle.events.specs.declared.Told.TheVariants.{No, Released, Ticked}
 use Rattle.run.specs.Events.{the_box}
 use Rattle.run.specs.Sound.{sound}
-use Rattle.events.specs.Values.{lines_said, told_values}
+use Rattle.events.specs.Values.{line_said, lines_said, told_values}
 use Rattle.run.specs.Found.{TakenTick, found_values, all_found, all_told}
 use Rattle.run.specs.Many.{told_to, after_line, after_lines, untaken, taken, many_of}
 use Rattle.run.specs.Many.{ticks_at, ticks_among, unfound, taken_finding, find_of}
 use Rattle.run.proofs.Shape.{RunShaped}
-use Rattle.events.proofs.Values.{told_length, lines_length, Laid, laid_start, laid_on, laid_end}
+use Rattle.events.proofs.Values.{told_length, lines_length, lines_left, Laid, laid_on, laid_end}
 use Rattle.events.proofs.Boxes.{Going as GoingIn, going_end as going-end-in, held_on}
 use Rattle.run.proofs.Found.{found_length}
 use Rattle.run.proofs.ManyLines.{TickTold, tick_told, lines_keep}
-use Rattle.scheduler.specs.declared.many.Reply.{Reply}
-use Rattle.scheduler.specs.declared.parts.Head.{Head}
-use Rattle.scheduler.specs.Inner.Parts.{run_of}
-use Rattle.scheduler.specs.Inner.Events.{SoundRun, FoundAt}
-use Rattle.scheduler.specs.Inner.Many.{Tells, is_tick, Puts}
+use Rattle.run.specs.declared.State.{State}
+use Rattle.scheduler.specs.declared.sheets.Sheets.{Sheets}
+use Rattle.scheduler.specs.Inner.Events.{SoundRun, FoundAt, run_of}
+use Rattle.scheduler.specs.Inner.Many.{Tells}
 use Rattle.scheduler.proofs.Inner.Events.{shaped}
 use Rattle.events.specs.declared.Event.{Event}
 
@@ -47,6 +50,25 @@ going_end r ls room z left i e g =
     let h = going-end-in the_box r ls room z left i e g in
     rw (h.0, ← h.1)
 
+-- the two numbers of a line, among all of them
+pair_at : (n i : ℕ) (vs d : List ℕ) → i < n → get_or (first_chunks 2 n vs) i d ≡ take 2 (drop (2 * i) vs)
+pair_at zero i vs d h = absurd (omega arith)
+pair_at (suc n) zero vs d h = refl
+pair_at (suc n) (suc i) vs d h =
+    let e : 2 * suc i ≡ 2 + 2 * i = omega arith in
+    pair_at n i (drop 2 vs) d (omega arith) ∙ ap (take 2) (drop-drop (2 * i) 2 vs) ∙ rw e
+
+pub line_left : (vs : List ℕ) (ps : List (List ℕ)) (i : ℕ) (d : List ℕ) → ps ≡ first_chunks 2 (length vs / 2) vs →
+    i < length (lines_said vs) →
+    drop i (lines_said vs)
+    ≡ line_said (get_or (get_or ps i d) 0 0) (get_or (get_or ps i d) 1 0) ∷ drop (i + 1) (lines_said vs)
+line_left vs ps i d q h =
+    let e : get_or ps i d ≡ take 2 (drop (2 * i) vs) =
+    ap (λ xs. get_or xs i d) q ∙ pair_at (length vs / 2) i vs d (omega (arith, lines_length vs)) in
+    let ys = drop (2 * i) vs in
+    rw (e, get_or-take 2 ys 0 0 (lit< tt), get_or-take 2 ys 1 0 (lit< tt), get_or-drop (2 * i) vs 0 0, get_or-drop (2 * i) vs 1 0, add-zero)
+    (lines_left vs i h)
+
 -- Of some ticks, one after the other, what is told and what is found is put into two lent rooms: after m
 -- of them v' and f' are the rooms, and `rest` are the ticks that are still to come.
 pub record Kept (t : Table) (all rest : List TakenTick) (v f v' f' : List ℕ) (m : ℕ) : Type 0 where
@@ -59,9 +81,29 @@ found_long : (t : Table) (ms : List TakenTick) (f : List ℕ) → FoundAt t ms f
 found_long t [] f e = ap length e
 found_long t (m ∷ ms) f e = ap length e ∙ found_length t m
 
-pub tells_long : (t : Table) (d : Reply) (u e w c f : List ℕ) (r : Run) (l : Option Event) → Tells t d u e w c f r l →
-    length f ≡ 96
-tells_long t d u e w c f r l q = found_long t (ticks_at r l) f q.found
+-- What was told of a tick that is taken, and what was found at it, is put behind that of m ticks before
+-- it; nothing else is.
+abbrev pub is_tick : Told → Bool
+is_tick (No number) = false
+is_tick (Released k) = false
+is_tick (Ticked a) = true
+
+pub record Puts (x : Told) (seen v f : List ℕ) (m : ℕ) (v' f' : List ℕ) (r : ℕ) : Type 0 where
+  pub ticks : r ≡ (if is_tick x then m + 1 else m)
+  pub told : v' ≡ (if is_tick x then paste v (9 * m) (told_values x) 9 else v)
+  pub found : f' ≡ (if is_tick x then paste f (96 * m) seen 96 else f)
+
+module _ (seen v f : List ℕ) (m : ℕ) (v' f' : List ℕ) (n : ℕ) where
+  pub puts_tick : (x : Told) (a : TickAnswer) → x ≡ Ticked a → n ≡ m + 1 → v' ≡ paste v (9 * m) (told_values x) 9 →
+      f' ≡ paste f (96 * m) seen 96 → Puts x seen v f m v' f' n
+  puts_tick (No number) a e h p q = cc
+  puts_tick (Released k) a e h p q = cc
+  puts_tick (Ticked b) a e h p q = record { ticks = h; told = p; found = q }
+
+  pub puts_none : (x : Told) → ((a : TickAnswer) → x ≡ Ticked a → ⊥) → n ≡ m → v' ≡ v → f' ≡ f → Puts x seen v f m v' f' n
+  puts_none (No number) g h p q = record { ticks = h; told = p; found = q }
+  puts_none (Released k) g h p q = record { ticks = h; told = p; found = q }
+  puts_none (Ticked a) g h p q = absurd (g a refl)
 
 -- a line, at which a tick is taken or not
 module _ (t : Table) (all rest : List TakenTick) (v f v' f' : List ℕ) (m : ℕ) (b : 9 * (m + 1) ≤ length v)
@@ -107,19 +149,6 @@ pub record Seeking (r : Run) (ls : List (Option Event)) (v f : List ℕ) (z : Ru
   pub run : after_lines r ls ≡ after_lines z (drop i ls)
   pub kept : Kept r.table (ticks_among r ls) (ticks_among z (drop i ls)) v f v' f' m
 
-pub seeking_start : (r : Run) (ls : List (Option Event)) (v f : List ℕ) → Seeking r ls v f r v f 0 0
-seeking_start r ls v f =
-    let ms = ticks_among r ls in
-    record {
-      run = refl;
-      kept =
-          record {
-            ticks = sym (zero-add (length ms));
-            told = laid_start 9 (all_told ms) v;
-            found = laid_start 96 (all_found r.table ms) f;
-          };
-    }
-
 pub seeking_on : (r : Run) (ls : List (Option Event)) (v f : List ℕ) (z : Run) (v' f' : List ℕ) (m i : ℕ) (l : Option Event)
     (y : Run) (x : Told) (seen v'' f'' : List ℕ) (n : ℕ) → 9 * (m + 1) ≤ length v → 96 * (m + 1) ≤ length f →
     drop i ls ≡ l ∷ drop (i + 1) ls → y ≡ after_line z l → x ≡ told_to z l → FoundAt r.table (ticks_at z l) seen →
@@ -153,17 +182,16 @@ seeking_end r ls v f z v' f' m i e g =
     let q = laid_end 96 (all_found r.table ms) (all_found r.table rest) f f' m (rw d) k.found in
     rw (u, n) (ap₂ (λ x y. record { finding = record { answer = Ok tt; run = z; ticks = m }; told = x; found = y }) p q)
 
--- A line keeps the run sound, and its parts in their arrays.
-pub line_keeps : (t : Table) (h : Head) (ss ks u e w c : List ℕ) → SoundRun t h ss ks u e w c → (l : Option Event) (d : Reply)
-    (u' e' w' c' f' : List ℕ) → Tells t d u' e' w' c' f' (run_of t h u e w c) l → SoundRun t d.head ss ks u' e' w' c'
+-- A line keeps the run sound, and its counts in their arrays.
+pub line_keeps : (t : Table) (ss : Sheets) (s : State) → SoundRun t ss s → (l : Option Event) (x : Told) (s' : State)
+    (f' : List ℕ) → Tells t x s' f' (run_of t s) l → SoundRun t ss s'
 unfolding after_lines_in
-line_keeps t h ss ks u e w c p l d u' e' w' c' f' q =
-    let s = p.shows in
-    let z : RunShaped (run_of t h u e w c) = record { table = s.sized; state = shaped t h ss ks u e w c p } in
-    let a = lines_keep (run_of t h u e w c) (l ∷ []) z p.sound in
+line_keeps t ss s p l x s' f' q =
+    let z : RunShaped (run_of t s) = record { table = p.shows.sized; state = shaped t ss s p } in
+    let a = lines_keep (run_of t s) (l ∷ []) z p.sound in
     let y = a.0.state in
     record {
-      shows = record { keeps = s.keeps; sized = s.sized; counts = q.counts; servers = s.servers; tasks = s.tasks };
+      shows = p.shows;
       sound = rw q.run a.1;
       used_long = ap (λ r. length r.state.used) q.run ∙ y.used;
       elapsed_long = ap (λ r. length r.state.elapsed) q.run ∙ y.elapsed;

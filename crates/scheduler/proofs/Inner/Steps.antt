@@ -1,9 +1,9 @@
--- The steps of a tick on the parts of a run, case by case as the code makes them. Assumes nothing.
-use Rattle.std.specs.Prelude.{if◌then◌else◌}
+-- The steps of a tick on a state that is lent, case by case as the code makes them. Assumes nothing.
+use Rattle.std.specs.Prelude.{if◌then◌else◌, None, Some}
 use mathlib.Core.Path.{◌≡◌, refl, sym, ap, ◌∙◌}
-use mathlib.Core.Bool.{Bool, true, false}
+use mathlib.Core.Bool.{Bool, true, false, not}
 use mathlib.Core.List.{List, [], ◌∷◌, ◌++◌}
-use Prim.Native.Nat.{ℕ, zero, suc, ◌+◌, ◌-◌, ◌≤◌, ◌<◌}
+use Prim.Native.Nat.{ℕ, zero, suc, ◌+◌, ◌≤◌, ◌<◌}
 use native.Mathlib.Omega.{arith}
 use native.Mathlib.Nat.{add-zero, zero-add, suc-add}
 use lib.Dec.{leb, eqb}
@@ -15,24 +15,26 @@ use Rattle.laws.proofs.Rows.{sum_next, sum_cong, sum_zero}
 use Rattle.table.specs.declared.ByMode.{ByMode}
 use Rattle.table.specs.declared.Level.{Level}
 use Rattle.table.specs.declared.Mode.{Mode}
-use Rattle.table.specs.declared.Mode.TheVariants.{N, D1, D2}
+use Rattle.table.specs.declared.Mode.TheVariants.{N}
 use Rattle.table.specs.declared.Table.{Table}
 use Rattle.table.specs.declared.Task.{Task}
-use Rattle.table.specs.Rows.{period_at, task_at, in_mode}
+use Rattle.table.specs.Rows.{period_at, task_at, in_mode, is_low}
 use Rattle.run.specs.declared.Judged.{Judged}
 use Rattle.events.specs.declared.Left.{Left}
 use Rattle.events.specs.declared.Left.TheVariants.{Nobody, Done, Cut}
 use Rattle.run.specs.declared.State.{State}
 use Rattle.events.specs.declared.Turn.{Turn}
 use Rattle.events.specs.declared.Turn.TheVariants.{Run as Ran, Empty, Idle}
-use Rattle.run.specs.State.{passes, some_waits, with_mode}
-use Rattle.run.specs.Tick.{height, counts_as, raises, raised, judge, step1, enters, drops, discards, step2, step3, step4, settle, step5, step6, step7, advance}
+use Rattle.run.specs.State.{passes, some_waits, with_mode, with_budgets, with_queues, with_last, with_counts}
+use Rattle.events.specs.Answers.{charged, ran}
+use Rattle.queues.specs.Queues.{last_of}
+use Rattle.run.specs.Tick.{height, counts_as, raises, raised, judge, without_front, step1, enters, drops, discards, step2, step3, step4, settle, advance}
 use Rattle.run.proofs.Judge.{below_limit, raises_mode, is_cut, height_at_most, Enough, enough_raised}
 use Rattle.queues.proofs.Queues.{anew_one, unchanged}
-use Rattle.scheduler.specs.declared.parts.Head.{Head}
-use Rattle.scheduler.specs.Inner.Parts.{last_in, state_of, at_mode}
-use Rattle.scheduler.specs.Inner.Steps.{Judges, none_found, kept_of, gone_of, noted_of, Discards, waits_at, is_n}
-use Rattle.scheduler.specs.Inner.Steps.{SettlesMode, Refills, Charges, after_run, RunsFront, Ages}
+use Rattle.scheduler.specs.declared.sheets.Sheets.{Sheets}
+use Rattle.scheduler.specs.Inner.Columns.{level_of}
+use Rattle.scheduler.specs.Inner.Steps.{Judges, none_found, kept_of, gone_of, noted_of, Discards, waits_at}
+use Rattle.scheduler.specs.Inner.Steps.{SettlesMode, Refills, SettledSo, Charges, RunsFront, Ages}
 use Rattle.scheduler.proofs.Inner.Columns.{low_on, period_on, phase_on}
 use Rattle.units.specs.declared.Ticks.{Ticks}
 
@@ -60,48 +62,44 @@ module _ (x : ByMode Ticks) (l : Level) (c : ℕ) (m₀ m : Mode) where
       Judges x l c m₀ (record { mode = m; cut = false })
   judged_stays (n, h, f) q k e g = sym (f k e g ∙ below_limit n k c m (rw e q))
 
-module _ (t : Table) (h : Head) (u e w c : List ℕ) (mark : Bool) where
-  abbrev Left-so : List ℕ → List ℕ → Mode → Left → Type 0
-  Left-so w' c' m l =
-      step1 t (state_of h u e w c) mark (last_in h.ran h.task)
-      ≡ record { state = state_of (at_mode h m) u e w' c'; left = l }
+-- Step 1, case by case.
+module _ (t : Table) (s : State) (mark : Bool) where
+  abbrev MarksSo : State → Left → Type 0
+  MarksSo s' l = step1 t s mark s.last ≡ record { state = s'; left = l }
 
-  pub no_job : h.ran ≡ false → Left-so w c h.mode Nobody
+  pub no_job : s.last ≡ None → MarksSo s Nobody
   unfolding step1
   no_job q = rw q
 
-  module _ (q : h.ran ≡ true) where
-    abbrev Leaves : Mode → Left → Type 0
-    Leaves = Left-so (set w h.task (get_or w h.task 0 - 1)) (set c h.task 0)
-
-    pub done : mark ≡ true → Leaves h.mode (Done h.task)
+  module _ (k : ℕ) (q : s.last ≡ Some k) where
+    pub done : mark ≡ true → MarksSo (without_front s k) (Done k)
     unfolding step1
     done m = rw (q, m)
 
     module _ (m : mark ≡ false) (j : Judged)
-        (p : j ≡ judge 3 (task_at t h.task) (get_or c h.task 0) h.mode) where
-      pub cut : j.cut ≡ true → Leaves j.mode (Cut h.task)
+        (p : j ≡ judge 3 (task_at t k) (get_or s.runs k 0) s.mode) where
+      pub cut : j.cut ≡ true → MarksSo (without_front (with_mode s j.mode) k) (Cut k)
       unfolding step1
       cut f = rw (q, m, ← p, f)
 
-      pub stays : j.cut ≡ false → Left-so w c j.mode Nobody
+      pub stays : j.cut ≡ false → MarksSo (with_mode s j.mode) Nobody
       unfolding step1
       stays f = rw (q, m, ← p, f)
 
 -- Step 2: the counts of a task are cleared exactly if its level is LO, and its jobs counted.
-module _ (ks xs ys : List ℕ) (k : ℕ) (e : ys ≡ anew k (kept_of ks) xs) where
-  pub drop_put : eqb (get_or ks (192 + k) 0) 0 ≡ true → set ys k 0 ≡ anew (k + 1) (kept_of ks) xs
+module _ (ks : Sheets) (xs ys : List ℕ) (k : ℕ) (e : ys ≡ anew k (kept_of ks) xs) where
+  pub drop_put : is_low (level_of ks k) ≡ true → set ys k 0 ≡ anew (k + 1) (kept_of ks) xs
   drop_put l = anew_put (kept_of ks) xs ys k 0 e 0 (rw l)
 
-  pub drop_stay : eqb (get_or ks (192 + k) 0) 0 ≡ false → ys ≡ anew (k + 1) (kept_of ks) xs
+  pub drop_stay : is_low (level_of ks k) ≡ false → ys ≡ anew (k + 1) (kept_of ks) xs
   drop_stay l = anew_stay (kept_of ks) xs ys k 0 e (rw l)
 
-  pub drop_count : (n : ℕ) → n ≡ sum_below k (λ j. gone_of ks j (get_or xs j 0)) → eqb (get_or ks (192 + k) 0) 0 ≡ true →
+  pub drop_count : (n : ℕ) → n ≡ sum_below k (λ j. gone_of ks j (get_or xs j 0)) → is_low (level_of ks k) ≡ true →
       n + get_or ys k 0 ≡ sum_below (k + 1) (λ j. gone_of ks j (get_or xs j 0))
   drop_count n h l = rw (h, anew_row (kept_of ks) xs ys k 0 e, sum_next (λ j. gone_of ks j (get_or xs j 0)) k) (rw l)
 
-pub drop_none : (ks xs : List ℕ) (k n : ℕ) → n ≡ sum_below k (λ j. gone_of ks j (get_or xs j 0)) →
-    eqb (get_or ks (192 + k) 0) 0 ≡ false → n ≡ sum_below (k + 1) (λ j. gone_of ks j (get_or xs j 0))
+pub drop_none : (ks : Sheets) (xs : List ℕ) (k n : ℕ) → n ≡ sum_below k (λ j. gone_of ks j (get_or xs j 0)) →
+    is_low (level_of ks k) ≡ false → n ≡ sum_below (k + 1) (λ j. gone_of ks j (get_or xs j 0))
 drop_none ks xs k n h l = rw (h, sum_next (λ j. gone_of ks j (get_or xs j 0)) k) (rw (l, add-zero))
 
 -- What is discarded of a task is noted at its place, behind the servers' places.
@@ -147,113 +145,116 @@ module _ (gone : ℕ → ℕ) (f : List ℕ) (k : ℕ) (e : f ≡ noted_of k gon
       ∙ ap (λ (xs : List ℕ). replicate 32 0 ++ xs)
       (anew_stay (λ j x. gone j) (replicate 64 0) ys k 0 refl (h ∙ sym z))
 
-module _ (h : Head) (before : Mode) (ks w c : List ℕ) where
-  pub discards_not : (f : List ℕ) → f ≡ none_found → enters before h.mode ≡ false → Discards h before ks w c w c f 0
+module _ (ss : Sheets) (before : Mode) (s : State) where
+  pub discards_not : (f : List ℕ) → f ≡ none_found → enters before s.mode ≡ false → Discards ss before s s f 0
   unfolding step2 discards drops
-  discards_not f z q t u e p n =
-      let s = state_of h u e w c in
+  discards_not f z q t p =
       let same : (k x : ℕ) → (if drops t before s k then 0 else x) ≡ x = λ k x. rw q in (
         rw (
-          anew_same t.ntasks (λ k x. if drops t before s k then 0 else x) w same,
-          anew_same t.ntasks (λ k x. if drops t before s k then 0 else x) c same,
+          anew_same t.ntasks (λ k x. if drops t before s k then 0 else x) s.waiting same,
+          anew_same t.ntasks (λ k x. if drops t before s k then 0 else x) s.runs same,
         ),
         sum_zero (discards t before s) t.ntasks (λ k l. rw q),
         z ∙ noted_zeros t.ntasks (discards t before s) (λ k. rw q),
       )
 
-  pub discards_entered : (w' c' f' : List ℕ) (n : ℕ) → enters before h.mode ≡ true →
-      w' ≡ anew h.ntasks (kept_of ks) w → c' ≡ anew h.ntasks (kept_of ks) c →
-      n ≡ sum_below h.ntasks (λ k. gone_of ks k (get_or w k 0)) →
-      f' ≡ noted_of h.ntasks (λ k. gone_of ks k (get_or w k 0)) → Discards h before ks w c w' c' f' n
+  pub discards_entered : (w' c' f' : List ℕ) (n : ℕ) → enters before s.mode ≡ true →
+      w' ≡ anew ss.ntasks (kept_of ss) s.waiting → c' ≡ anew ss.ntasks (kept_of ss) s.runs →
+      n ≡ sum_below ss.ntasks (λ k. gone_of ss k (get_or s.waiting k 0)) →
+      f' ≡ noted_of ss.ntasks (λ k. gone_of ss k (get_or s.waiting k 0)) →
+      Discards ss before s (with_queues s (record { waiting = w'; runs = c' })) f' n
   unfolding step2 discards drops
-  discards_entered w' c' f' n q pw pc pn pf t u e p m =
-      let s = state_of h u e w c in
-      let same : (k x : ℕ) → k < t.ntasks → (if drops t before s k then 0 else x) ≡ kept_of ks k x =
-      λ k x l. rw (q, low_on t ks p k l) in
-      let gone : (k : ℕ) → k < t.ntasks → discards t before s k ≡ gone_of ks k (get_or w k 0) =
-      λ k l. rw (q, low_on t ks p k l) in (
+  discards_entered w' c' f' n q pw pc pn pf t p =
+      let m = p.count in
+      let same : (k x : ℕ) → k < t.ntasks → (if drops t before s k then 0 else x) ≡ kept_of ss k x =
+      λ k x l. rw (q, low_on t ss p k l) in
+      let gone : (k : ℕ) → k < t.ntasks → discards t before s k ≡ gone_of ss k (get_or s.waiting k 0) =
+      λ k l. rw (q, low_on t ss p k l) in (
         rw (
           pw,
           pc,
           m,
-          anew_cong t.ntasks (λ k x. if drops t before s k then 0 else x) (kept_of ks) w same,
-          anew_cong t.ntasks (λ k x. if drops t before s k then 0 else x) (kept_of ks) c same,
+          anew_cong t.ntasks (λ k x. if drops t before s k then 0 else x) (kept_of ss) s.waiting same,
+          anew_cong t.ntasks (λ k x. if drops t before s k then 0 else x) (kept_of ss) s.runs same,
         ),
-        rw (pn, m) (sum_cong (discards t before s) (λ k. gone_of ks k (get_or w k 0)) t.ntasks gone),
-        rw (pf, m) (sym (noted_cong t.ntasks (discards t before s) (λ k. gone_of ks k (get_or w k 0)) gone)),
+        rw (pn, m) (sum_cong (discards t before s) (λ k. gone_of ss k (get_or s.waiting k 0)) t.ntasks gone),
+        rw (pf, m) (sym (noted_cong t.ntasks (discards t before s) (λ k. gone_of ss k (get_or s.waiting k 0)) gone)),
       )
 
--- Step 3.
-pub mode_is : (h : Head) (w : List ℕ) (m : Mode) → m ≡ (if any_below h.ntasks (waits_at w) then h.mode else N) → SettlesMode h w m
-unfolding step3 some_waits
-mode_is h w m q t u e c n = rw (q, n) (go (any_below t.ntasks (waits_at w)))
-  where
-    go : (b : Bool) →
-        (if b then state_of h u e w c else with_mode (state_of h u e w c) N)
-        ≡ state_of (at_mode h (if b then h.mode else N)) u e w c
-    go true = refl
-    go false = refl
+-- Step 3: in N there is nothing to ask; some job waits; none does.
+module _ (ss : Sheets) (s : State) where
+  pub mode_in_n : s.mode ≡ N → SettlesMode ss s s
+  unfolding step3
+  mode_in_n e t p = go (some_waits t s)
+    where
+      go : (b : Bool) → (if b then s else with_mode s N) ≡ s
+      go true = refl
+      go false = rw (← e)
 
--- in N there is nothing to ask
-in_n : (m : Mode) → is_n m ≡ true → (b : Bool) → m ≡ (if b then m else N)
-in_n N e true = refl
-in_n N e false = refl
-in_n D1 e b = cc
-in_n D2 e b = cc
+  pub mode_stays : any_below ss.ntasks (waits_at s.waiting) ≡ true → SettlesMode ss s s
+  unfolding step3 some_waits
+  mode_stays e t p = rw (rw p.count at e)
 
-pub mode_in_n : (h : Head) (w : List ℕ) → is_n h.mode ≡ true → SettlesMode h w h.mode
-mode_in_n h w e = mode_is h w h.mode (in_n h.mode e (any_below h.ntasks (waits_at w)))
+  pub mode_falls : any_below ss.ntasks (waits_at s.waiting) ≡ false → SettlesMode ss s (with_mode s N)
+  unfolding step3 some_waits
+  mode_falls e t p = rw (rw p.count at e)
 
 -- Step 4: a row is refilled exactly if its elapsed count, as it was, equals its period.
-abbrev pub refilled : List ℕ → List ℕ → ℕ → ℕ → ℕ
-refilled ss e i x = if eqb (get_or e i 0) (get_or ss (64 + i) 0) then 0 else x
+abbrev pub refilled : Sheets → List ℕ → ℕ → ℕ → ℕ
+refilled ss e i x = if eqb (get_or e i 0) (get_or ss.servers (64 + i) 0) then 0 else x
 
-pub refill_put : (ss e₀ e xs ys : List ℕ) (i : ℕ) → e ≡ anew i (refilled ss e₀) e₀ → ys ≡ anew i (refilled ss e₀) xs → (v : ℕ) →
-    v ≡ (if eqb (get_or e i 0) (get_or ss (64 + i) 0) then 0 else get_or ys i 0) → set ys i v ≡ anew (i + 1) (refilled ss e₀) xs
+turned : (b : Bool) (x : ℕ) → (if not b then x else 0) ≡ (if b then 0 else x)
+turned true x = refl
+turned false x = refl
+
+pub refill_put : (ss : Sheets) (e₀ e xs ys : List ℕ) (i : ℕ) → e ≡ anew i (refilled ss e₀) e₀ → ys ≡ anew i (refilled ss e₀) xs →
+    (v : ℕ) → v ≡ (if not (eqb (get_or e i 0) (get_or ss.servers (64 + i) 0)) then get_or ys i 0 else 0) →
+    set ys i v ≡ anew (i + 1) (refilled ss e₀) xs
 refill_put ss e₀ e xs ys i p q v h =
-    anew_put (refilled ss e₀) xs ys i 0 q v (rw (h, anew_row (refilled ss e₀) e₀ e i 0 p))
+    anew_put (refilled ss e₀) xs ys i 0 q v
+    (rw (← anew_row (refilled ss e₀) e₀ e i 0 p) (sym (h ∙ turned (eqb (get_or e i 0) (get_or ss.servers (64 + i) 0)) (get_or ys i 0))))
 
-pub refills_is : (n : ℕ) (ss u e u' e' : List ℕ) → u' ≡ anew n (refilled ss e) u → e' ≡ anew n (refilled ss e) e →
-    Refills n ss u e u' e'
+pub refills_is : (ss : Sheets) (u e u' e' : List ℕ) → u' ≡ anew ss.nservers (refilled ss e) u →
+    e' ≡ anew ss.nservers (refilled ss e) e → Refills ss u e u' e'
 unfolding step4
-refills_is n ss u e u' e' pu pe t h w c p m =
+refills_is ss u e u' e' pu pe t s p =
     let f : ℕ → ℕ → ℕ = λ i x. if eqb (get_or e i 0) (period_at t i) then 0 else x in
     let same : (i x : ℕ) → i < t.nservers → refilled ss e i x ≡ f i x = λ i x l. rw (period_on t ss p i l) in
-    rw (pu, pe, m, anew_cong t.nservers (refilled ss e) f u same, anew_cong t.nservers (refilled ss e) f e same)
+    rw (pu, pe, p.count, anew_cong t.nservers (refilled ss e) f u same, anew_cong t.nservers (refilled ss e) f e same)
 
 -- Steps 1 to 4 put together.
 pub settled_is : (t : Table) (s : State) (mark : Bool) (s₁ s₂ s₃ z : State) (l : Left) (n : ℕ) →
     step1 t s mark s.last ≡ record { state = s₁; left = l } → step2 t s.mode s₁ ≡ s₂ →
     sum_below t.ntasks (discards t s.mode s₁) ≡ n → step3 t s₂ ≡ s₃ → step4 t s₃ ≡ z → (f : List ℕ) →
     f ≡ noted_of t.ntasks (discards t s.mode s₁) →
-    ((settle t s mark).state ≡ z) × ((settle t s mark).left ≡ l) × (sum_below t.ntasks (settle t s mark).discarded ≡ n)
-    × (f ≡ noted_of t.ntasks (settle t s mark).discarded)
+    SettledSo t mark s z f (record { left = l; discarded = n })
 unfolding settle
-settled_is t s mark s₁ s₂ s₃ z l n e₁ e₂ e e₃ e₄ f g = (rw (e₁, e₂, e₃) e₄, rw e₁, rw e₁ e, rw e₁ g)
+settled_is t s mark s₁ s₂ s₃ z l n e₁ e₂ e e₃ e₄ f g =
+    record { state = rw (e₁, e₂, e₃) e₄; left = rw e₁; count = rw e₁ e; found = rw e₁ g }
 
--- Steps 5, 6 and 7, turn by turn.
+-- Steps 5 and 6, turn by turn.
 module _ (i k : ℕ) (xs ys : List ℕ) where
   pub charges_run : ys ≡ set xs i (get_or xs i 0 + 1) → Charges (Ran i k) xs ys
-  charges_run q t h e w c l = ap (λ x. state_of h x e w c) (anew_one t.nservers i xs l ∙ sym q)
+  charges_run q t l = anew_one t.nservers i xs l ∙ sym q
 
   pub charges_empty : ys ≡ set xs i (get_or xs i 0 + 1) → Charges (Empty i) xs ys
-  charges_empty q t h e w c l = ap (λ x. state_of h x e w c) (anew_one t.nservers i xs l ∙ sym q)
+  charges_empty q t l = anew_one t.nservers i xs l ∙ sym q
 
   pub runs_run : ys ≡ set xs k (get_or xs k 0 + 1) → RunsFront (Ran i k) xs ys
-  runs_run q t h u e w l = ap (λ x. state_of (after_run h (Ran i k)) u e w x) (anew_one t.ntasks k xs l ∙ sym q)
+  runs_run q t l = anew_one t.ntasks k xs l ∙ sym q
 
-pub charges_idle : (xs : List ℕ) → Charges Idle xs xs
-charges_idle xs t h e w c l = ap (λ x. state_of h x e w c) (unchanged t.nservers xs)
+module _ (xs : List ℕ) where
+  pub charges_idle : Charges Idle xs xs
+  charges_idle t l = unchanged t.nservers xs
 
-pub runs_empty : (i : ℕ) (xs : List ℕ) → RunsFront (Empty i) xs xs
-runs_empty i xs t h u e w l = ap (λ x. state_of (after_run h (Empty i)) u e w x) (unchanged t.ntasks xs)
-
-pub runs_idle : (xs : List ℕ) → RunsFront Idle xs xs
-runs_idle xs t h u e w l = ap (λ x. state_of (after_run h Idle) u e w x) (unchanged t.ntasks xs)
+  pub runs_not : (turn : Turn) → ((i k : ℕ) → turn ≡ Ran i k → ⊥) → RunsFront turn xs xs
+  runs_not (Ran i k) n t l = absurd (n i k refl)
+  runs_not (Empty i) n t l = unchanged t.ntasks xs
+  runs_not Idle n t l = unchanged t.ntasks xs
 
 -- Step 7: a row ages exactly if it has started.
-abbrev pub aged : List ℕ → ℕ → ℕ → ℕ → ℕ
-aged ss ticks i x = x + (if leb (get_or ss (192 + i) 0) ticks then 1 else 0)
+abbrev pub aged : Sheets → ℕ → ℕ → ℕ → ℕ
+aged ss ticks i x = x + (if leb (get_or ss.servers (192 + i) 0) ticks then 1 else 0)
 
 pub passing_most : (phase ticks n : ℕ) → n ≡ (if leb phase ticks then 1 else 0) → n ≤ 1
 passing_most phase ticks n e = go (leb phase ticks) e
@@ -262,13 +263,19 @@ passing_most phase ticks n e = go (leb phase ticks) e
     go true q = omega arith
     go false q = omega arith
 
-pub ages_is : (n ticks : ℕ) (ss xs ys : List ℕ) → ys ≡ anew n (aged ss ticks) xs → Ages n ticks ss xs ys
-ages_is n ticks ss xs ys q t h u w c p m e =
-    let f : ℕ → ℕ → ℕ = λ i x. x + passes t (state_of h u xs w c) i in
+pub ages_is : (ss : Sheets) (ticks : ℕ) (xs ys : List ℕ) → ys ≡ anew ss.nservers (aged ss ticks) xs → Ages ss ticks xs ys
+ages_is ss ticks xs ys q t s p e =
+    let f : ℕ → ℕ → ℕ = λ i x. x + passes t s i in
     let same : (i x : ℕ) → i < t.nservers → aged ss ticks i x ≡ f i x = λ i x l. rw (phase_on t ss p i l, e) in
-    rw (q, m, anew_cong t.nservers (aged ss ticks) f xs same)
+    rw (q, p.count) (sym (anew_cong t.nservers (aged ss ticks) f xs same))
 
-pub advance_is : (t : Table) (turn : Turn) (s s₁ s₂ z : State) → step5 t s turn ≡ s₁ → step6 t s₁ turn ≡ s₂ →
-    step7 t s₂ ≡ z → advance t s turn ≡ z
+pub advance_is : (t : Table) (turn : Turn) (s : State) (u e c : List ℕ) →
+    anew t.nservers (λ i x. x + charged turn i) s.used ≡ u → anew t.ntasks (λ k x. x + ran turn k) s.runs ≡ c →
+    anew t.nservers (λ i x. x + passes t s i) s.elapsed ≡ e →
+    advance t s turn
+    ≡ with_counts
+    (with_last (with_queues (with_budgets s u e) (record { waiting = s.waiting; runs = c })) (last_of turn))
+    (record { 0 = s.ticks.0 + 1 })
+    s.accepted
 unfolding advance
-advance_is t turn s s₁ s₂ z e₁ e₂ e₃ = ap (λ x. step7 t (step6 t x turn)) e₁ ∙ ap (step7 t) e₂ ∙ e₃
+advance_is t turn s u e c p q r = rw (p, q, r)

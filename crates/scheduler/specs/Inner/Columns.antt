@@ -1,5 +1,7 @@
 -- The rows of a table as plain numbers, a column after the other: which tables such sheets show.
-use Rattle.std.specs.Prelude.{◌≡◌, List, [], ◌∷◌, ℕ, zero, suc, ◌+◌, ◌*◌, ◌<◌, get_or, set}
+use Rattle.std.specs.Prelude.{◌≡◌, Bool, not, eqb, List, [], ◌∷◌, ℕ, zero, suc, ◌+◌, ◌*◌, ◌<◌, length, get_or, set}
+use Rattle.units.specs.declared.Ticks.{Ticks}
+use Rattle.table.specs.declared.ByMode.{ByMode}
 use Rattle.table.specs.declared.Kind.{Kind}
 use Rattle.table.specs.declared.Kind.TheVariants.{Event, Timed}
 use Rattle.table.specs.declared.Level.{Level}
@@ -9,6 +11,7 @@ use Rattle.table.specs.declared.Task.{Task}
 use Rattle.table.specs.declared.Table.{Table}
 use Rattle.table.specs.Rows.{server_at, task_at}
 use Rattle.run.specs.Tick.{height}
+use Rattle.scheduler.specs.declared.sheets.Sheets.{Sheets}
 
 abbrev pub kind_number : Kind → ℕ
 kind_number Event = 0
@@ -19,6 +22,21 @@ abbrev pub level_in : ℕ → Level
 level_in zero = LO
 level_in (suc zero) = MI
 level_in (suc (suc x)) = HI
+
+-- what the sheets say of task k and of server i
+abbrev pub level_of : Sheets → ℕ → Level
+level_of ss k = level_in (get_or ss.tasks (192 + k) 0)
+
+abbrev pub limits_of : Sheets → ℕ → ByMode Ticks
+limits_of ss k =
+    record {
+      n = record { 0 = get_or ss.tasks (256 + k) 0 };
+      d1 = record { 0 = get_or ss.tasks (320 + k) 0 };
+      d2 = record { 0 = get_or ss.tasks (384 + k) 0 };
+    }
+
+abbrev pub timed_of : Sheets → ℕ → Bool
+timed_of ss i = not (eqb (get_or ss.servers (32 + i) 0) 0)
 
 -- the numbers of a row, a column each
 abbrev pub server_cells : Server → List ℕ
@@ -52,9 +70,18 @@ written w c (v ∷ vs) i sheet = written w (suc c) vs i (set sheet (c * w + i) v
 abbrev pub OnSheet : ℕ → ℕ → (ℕ → List ℕ) → ℕ → List ℕ → Type 0
 OnSheet w m cells n sheet = (c i : ℕ) → c < m → i < n → get_or sheet (c * w + i) 0 ≡ get_or (cells i) c 0
 
--- the rows in use of a table
-abbrev pub ServersOn : Table → List ℕ → Type 0
-ServersOn t = OnSheet 32 7 (λ i. server_cells (server_at t i)) t.nservers
+-- the rows in use of a table, and how many they are
+pub record ServersOn (t : Table) (ss : Sheets) : Type 0 where
+  pub count : ss.nservers ≡ t.nservers
+  pub cells : OnSheet 32 7 (λ i. server_cells (server_at t i)) t.nservers ss.servers
 
-abbrev pub TasksOn : Table → List ℕ → Type 0
-TasksOn t = OnSheet 64 7 (λ k. task_cells (task_at t k)) t.ntasks
+pub record TasksOn (t : Table) (ss : Sheets) : Type 0 where
+  pub count : ss.ntasks ≡ t.ntasks
+  pub cells : OnSheet 64 7 (λ k. task_cells (task_at t k)) t.ntasks ss.tasks
+
+-- the sheets of a table: all its rows stand in them
+pub record SheetsOf (t : Table) (ss : Sheets) : Type 0 where
+  pub nservers : ss.nservers ≡ t.nservers
+  pub ntasks : ss.ntasks ≡ t.ntasks
+  pub servers : (length t.servers ≡ 32) × OnSheet 32 7 (λ i. server_cells (server_at t i)) 32 ss.servers
+  pub tasks : (length t.tasks ≡ 64) × OnSheet 64 7 (λ k. task_cells (task_at t k)) 64 ss.tasks

@@ -9,10 +9,10 @@ use Rattle.framescheduler.proofs.sound.run_sound.Goals.{Else-not-frame_table_kee
 
 pub returns-then-not-frame_table_keeps : goal.returns-then-not-frame_table_keeps
 returns-then-not-frame_table_keeps c =
-    table_breaks c.args.t c.args.s
+    table_breaks c.args.r.now.table c.args.r.now.state
     (sym c.frame_table_keeps.ensures ∙ c.if-not-frame_table_keeps.true)
 
-kept : (c : Else-not-frame_table_keeps) → frame_table_keeps c.args.t ≡ true
+kept : (c : Else-not-frame_table_keeps) → frame_table_keeps c.args.r.now.table ≡ true
 kept c = sym c.frame_table_keeps.ensures ∙ c.if-not-frame_table_keeps.false
 
 pub tasks_sound-tasks-requires : goal.tasks_sound-tasks-requires
@@ -26,4 +26,4 @@ returns c =
       c.last_sound-last.ensures,
       c.counts_sound-counts.ensures,
     )
-    (state_asked c.args.t c.args.s (kept (goal.at.returns c).Else-not-frame_table_keeps))
+    (state_asked c.args.r.now.table c.args.r.now.state (kept (goal.at.returns c).Else-not-frame_table_keeps))

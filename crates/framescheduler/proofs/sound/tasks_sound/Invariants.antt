@@ -2,9 +2,8 @@
 -- decides. Assumes nothing.
 use mathlib.Core.Path.{◌≡◌}
 use mathlib.Core.Bool.{true}
-use Prim.Native.Nat.{◌≤◌}
 use Rattle.framescheduler.specs.Inner.{tasks_sound}
 use Rattle.framescheduler.proofs.sound.tasks_sound.Given as goal
 
 abbrev pub invariant-loop-k : goal.invariant-loop-k
-invariant-loop-k l = (l.k ≤ l.k-end) × (tasks_sound l.t l.s l.k ≡ true)
+invariant-loop-k l = tasks_sound l.r.table l.r.state l.k ≡ true

@@ -17,9 +17,3 @@ pub returns-in-Run : goal.returns-in-Run
 returns-in-Run c =
     let f = fits _ _ _ _ c.in-Run.is c.requires in
     rw c.in-Run.is (c.run_front.ensures ∙ runs_on c.args.runs.now c.in-Run.task f.0 (omega (arith, f.1)))
-
-pub returns-in-Empty : goal.returns-in-Empty
-returns-in-Empty c = rw c.in-Empty.is
-
-pub returns-in-Idle : goal.returns-in-Idle
-returns-in-Idle c = rw c.in-Idle.is

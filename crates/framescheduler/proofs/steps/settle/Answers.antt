@@ -1,9 +1,8 @@
 -- `framescheduler::steps::settle` meets its contract: each way through the code is a case of the mark. Assumes nothing.
 use Rattle.std.proofs.Common.{Option, Some}
-use mathlib.Core.Path.{◌≡◌}
+use mathlib.Core.Path.{refl, ◌≡◌}
 use Prim.Native.Nat.{ℕ, ◌<◌}
-use native.Mathlib.Omega.{arith}
-use Rattle.framescheduler.specs.Inner.{LastLow}
+use Rattle.framescheduler.specs.Inner.{head_of, LastLow}
 use Rattle.framescheduler.proofs.Inner.{settle_none, settle_done, settle_cut, settle_stay}
 use Rattle.framescheduler.proofs.steps.settle.Goals as goal
 
@@ -14,33 +13,37 @@ low l k e h = rw e at h
 pub returns-then-mark : goal.returns-then-mark
 returns-then-mark c =
     let a = c.args in
-    settle_done a.t a.h a.waiting.now a.runs.now a.mark _ _ _ c.in-Some.is (low _ _ c.in-Some.is c.requires)
-    c.if-mark.true c.leave.ensures.0 c.leave.ensures.1
+    record {
+      settles =
+          settle_done a.t.now (head_of a.s.now) a.s.now.waiting a.s.now.runs a.mark _ _ _ c.in-Some.is (low _ _ c.in-Some.is c.requires)
+          c.if-mark.true c.leave.ensures.0 c.leave.ensures.1;
+      kept = refl;
+    }
 
-pub offset_bounds-runs-k : goal.offset_bounds-runs-k
-offset_bounds-runs-k c = omega (arith, low _ _ c.in-Some.is c.requires)
-
-pub bounds-runs-k : goal.bounds-runs-k
-bounds-runs-k c = low _ _ c.in-Some.is c.requires
-
-pub offset_bounds-t-k : goal.offset_bounds-t-k
-offset_bounds-t-k c = omega (arith, low _ _ c.in-Some.is c.requires)
-
-pub bounds-t-k : goal.bounds-t-k
-bounds-t-k c = low _ _ c.in-Some.is c.requires
-
-pub returns-then-runs-k : goal.returns-then-runs-k
-returns-then-runs-k c =
+pub returns-then-s-k : goal.returns-then-s-k
+returns-then-s-k c =
     let a = c.args in
-    settle_cut a.t a.h a.waiting.now a.runs.now a.mark _ _ _ c.in-Some.is (low _ _ c.in-Some.is c.requires) c.if-mark.false
-    c.if-runs-k.true c.leave-then-runs-k.ensures.0 c.leave-then-runs-k.ensures.1
+    record {
+      settles =
+          settle_cut a.t.now (head_of a.s.now) a.s.now.waiting a.s.now.runs a.mark _ _ _ c.in-Some.is (low _ _ c.in-Some.is c.requires) c.if-mark.false
+          c.if-s-k.true c.leave-then-s-k.ensures.0 c.leave-then-s-k.ensures.1;
+      kept = refl;
+    }
 
 pub returns-in-None : goal.returns-in-None
 returns-in-None c =
     let a = c.args in
-    settle_none a.t a.h a.waiting.now a.runs.now a.mark c.in-None.is
+    record {
+      settles =
+          settle_none a.t.now (head_of a.s.now) a.s.now.waiting a.s.now.runs a.mark c.in-None.is;
+      kept = refl;
+    }
 
-pub returns-else-runs-k : goal.returns-else-runs-k
-returns-else-runs-k c =
+pub returns-else-s-k : goal.returns-else-s-k
+returns-else-s-k c =
     let a = c.args in
-    settle_stay a.t a.h a.waiting.now a.runs.now a.mark _ c.in-Some.is c.if-mark.false c.if-runs-k.false
+    record {
+      settles =
+          settle_stay a.t.now (head_of a.s.now) a.s.now.waiting a.s.now.runs a.mark _ c.in-Some.is c.if-mark.false c.if-s-k.false;
+      kept = refl;
+    }

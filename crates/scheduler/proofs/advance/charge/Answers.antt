@@ -1,12 +1,15 @@
 -- `scheduler::advance::charge` meets its contract, turn by turn. Assumes nothing.
+use mathlib.Core.Path.{refl}
+use mathlib.Core.Logic.{inl, inr}
 use Rattle.scheduler.proofs.Inner.Steps.{charges_run, charges_empty, charges_idle}
 use Rattle.scheduler.proofs.advance.charge.Goals as goal
 
 pub returns-in-Run : goal.returns-in-Run
-returns-in-Run c = rw c.in-Run.is (charges_run c.in-Run.server c.in-Run.task _ _ c.add_used.ensures)
-
-pub returns-in-Empty : goal.returns-in-Empty
-returns-in-Empty c = rw c.in-Empty.is (charges_empty _ 0 _ _ c.add_used-in-Empty.ensures)
+returns-in-Run c =
+    elim c.in-Run.is [
+      | inl p ↦ rw p.1 (charges_run c.in-Run.server p.0 c.args.used.now _ refl)
+      | inr p ↦ rw p (charges_empty c.in-Run.server 0 c.args.used.now _ refl)
+    ]
 
 pub returns-in-Idle : goal.returns-in-Idle
-returns-in-Idle c = rw c.in-Idle.is (charges_idle _)
+returns-in-Idle c = rw c.in-Idle.is (charges_idle c.args.used.now)

@@ -2,17 +2,15 @@
 use mathlib.Core.Path.{◌∙◌}
 use native.Mathlib.Omega.{arith}
 use Rattle.queues.proofs.Inner.{runs_on}
-use Rattle.scheduler.proofs.Inner.Steps.{runs_run, runs_empty, runs_idle}
+use Rattle.scheduler.proofs.Inner.Steps.{runs_run, runs_not}
 use Rattle.scheduler.proofs.advance.run_front.Goals as goal
 
 pub returns-in-Run : goal.returns-in-Run
 returns-in-Run c =
+    let k = c.in-Run.task in
+    let xs = c.args.runs.now in
     let f = rw c.in-Run.is at c.requires in
-    rw c.in-Run.is
-    (runs_run c.in-Run.server c.in-Run.task _ _ (c.run_front.ensures ∙ runs_on c.args.runs.now c.in-Run.task f.0 (omega (arith, f.1))))
+    rw c.in-Run.is (runs_run c.in-Run.server k xs _ (c.run_front.ensures ∙ runs_on xs k f.0 (omega (arith, f.1))))
 
-pub returns-in-Empty : goal.returns-in-Empty
-returns-in-Empty c = rw c.in-Empty.is (runs_empty c.in-Empty.server _)
-
-pub returns-in-Idle : goal.returns-in-Idle
-returns-in-Idle c = rw c.in-Idle.is (runs_idle _)
+pub returns-in_default : goal.returns-in_default
+returns-in_default c = runs_not c.args.runs.now c.args.turn c.in_default.not-Run

@@ -1,8 +1,7 @@
 -- `scheduler::choose::find_able` meets its contract: the walk keeps the highest able server among
 -- the servers passed. Assumes nothing.
-use mathlib.Core.List.{List}
 use mathlib.Core.Path.{◌≡◌}
-use Prim.Native.Nat.{ℕ, ◌≤◌, ◌<◌, ◌-◌}
+use Prim.Native.Nat.{ℕ, ◌≤◌, ◌<◌}
 use lib.Dec.{ltb}
 use lib.ListN.{get_or}
 use Rattle.table.specs.Rows.{priority_at}
@@ -10,18 +9,11 @@ use Rattle.table.specs.declared.Table.{Table}
 use Rattle.run.specs.Tick.{able}
 use Rattle.run.specs.State.{waits}
 use Rattle.scheduler.specs.Inner.Columns.{ServersOn}
-use Rattle.scheduler.specs.Inner.Parts.{state_of}
-use Rattle.scheduler.specs.Inner.Choose.{capacity_column}
 use Rattle.laws.proofs.Highest.{Top}
 use Rattle.scheduler.proofs.choose.find_able.Given as goal
 
 abbrev pub invariant-loop-i : goal.invariant-loop-i
 invariant-loop-i l =
-    (l.i ≤ l.i-end)
-    × ((t : Table) (e w c : List ℕ) → l.column ≡ capacity_column l.h.mode → ServersOn t l.servers → l.i-end ≡ t.nservers →
-    ((j : ℕ) → j < t.nservers → 1 ≤ priority_at t j) →
-    ((j : ℕ) → j < t.nservers → ltb 0 (get_or l.found j 0) ≡ waits t (state_of l.h l.used e w c) j) →
-    Top l.i (able t (state_of l.h l.used e w c)) (priority_at t) l.high l.best)
-
-abbrev pub decreases-loop-i : goal.decreases-loop-i
-decreases-loop-i l = l.i-end - l.i
+    (t : Table) → ServersOn t l.sheets → ((j : ℕ) → j < t.nservers → 1 ≤ priority_at t j) →
+    ((j : ℕ) → j < t.nservers → ltb 0 (get_or l.found j 0) ≡ waits t l.state j) →
+    Top l.i (able t l.state) (priority_at t) l.high l.best

@@ -7,12 +7,10 @@ use Rattle.scheduler.proofs.settle.discard.Goals as goal
 pub returns-then-not-enters_d2 : goal.returns-then-not-enters_d2
 returns-then-not-enters_d2 c =
     let a = c.args in
-    discards_not a.h a.before a.tasks.now a.waiting.now a.runs.now _ c.requires.1
-    (sym c.enters_d2.ensures ∙ c.if-not-enters_d2.true)
+    discards_not a.sheets.now a.before a.state.now _ c.requires.1 (sym c.enters_d2.ensures ∙ c.if-not-enters_d2.true)
 
 pub returns : goal.returns
 returns c =
     let a = c.args in
-    discards_entered a.h a.before a.tasks.now a.waiting.now a.runs.now _ _ _ _
-    (sym c.enters_d2.ensures ∙ c.if-not-enters_d2.false)
+    discards_entered a.sheets.now a.before a.state.now _ _ _ _ (sym c.enters_d2.ensures ∙ c.if-not-enters_d2.false)
     c.drop_low.ensures.0 c.drop_low.ensures.1 c.drop_low.ensures.2 c.drop_low.ensures.3

@@ -1,6 +1,5 @@
 -- `scheduler::sheets::task_sheet` meets its contract: the rows passed stand in the sheet. Assumes
 -- nothing.
-use Prim.Native.Nat.{◌≤◌, ◌-◌}
 use lib.ListN.{get_or}
 use Rattle.table.specs.Rows.{no_task}
 use Rattle.scheduler.specs.Inner.Columns.{task_cells}
@@ -8,7 +7,4 @@ use Rattle.scheduler.proofs.Inner.Columns.{Filled}
 use Rattle.scheduler.proofs.sheets.task_sheet.Given as goal
 
 abbrev pub invariant-loop-k : goal.invariant-loop-k
-invariant-loop-k l = (l.k ≤ 64) × Filled 64 7 (λ j. task_cells (get_or l.tasks j no_task)) l.k l.sheet
-
-abbrev pub decreases-loop-k : goal.decreases-loop-k
-decreases-loop-k l = 64 - l.k
+invariant-loop-k l = Filled 64 7 (λ j. task_cells (get_or l.tasks j no_task)) l.k l.sheet
