@@ -1,7 +1,7 @@
 -- What the contracts of this crate say of a program's words, of reading and of writing. What the
 -- operating system answers is not known, so each says what is made of it, whatever it is. Assumes
 -- nothing.
-use Rattle.std.specs.Prelude.{ℕ, zero, suc, ◌≤◌, ◌<◌, ◌≡◌, Bool, false, ◌&&◌, List, eqb, length, take, Result, Ok, Err, IfOk}
+use Rattle.std.specs.Prelude.{ℕ, zero, suc, ◌≤◌, ◌<◌, ◌≡◌, Bool, true, false, ◌&&◌, List, eqb, length, take, Result, Ok, Err, IfOk}
 use Rattle.std.specs.IoError.{error_kind}
 use Rattle.std.specs.declared.io.Error.{Error}
 use Rattle.std.specs.declared.io.ErrorKind.{ErrorKind}
@@ -67,3 +67,16 @@ pub record Out (many : ℕ) (r : Bool) : Type 0 where
 pub record First (room n : ℕ) (r : Bool) : Type 0 where
   pub beyond : room < n → r ≡ false
   pub first : n ≤ room → Out n r
+
+-- The file came to its end
+abbrev pub is_end : How → Bool
+is_end On = false
+is_end End = true
+is_end Failed = false
+
+-- How the last read of a file ended, and whether the system said that it took all that was made of it;
+-- the answer is whether the file ended there and it did.
+pub record Ended (r : Bool) : Type 0 where
+  pub how : How
+  pub taken : Bool
+  pub compared : r ≡ (taken && is_end how)

@@ -18,11 +18,7 @@ pub const ROOM: usize = LONGEST_TEXT + 1;
 pub fn is_failed(how: How) -> bool
     ensures { result ≡ is_failed how }
 {
-    match how {
-        How::On => false,
-        How::End => false,
-        How::Failed => true,
-    }
+    how == How::Failed
 }
 
 // What is given by a file that was read so, with this text: none where it could not be read.

@@ -6,6 +6,7 @@
 #![tactic(auto)]
 
 pub mod given;
+pub mod night;
 pub mod pieces;
 pub mod source;
 
@@ -32,7 +33,8 @@ const LONGEST_WORD: usize = 4096;
 
 // How a read or a write ended: it may go on, also where it was interrupted before it moved a byte;
 // there is no more; or it failed.
-#[derive(Clone, Copy)]
+// Kept: an enum of three, since io::Result cannot say that a read may go on.
+#[derive(Clone, Copy, PartialEq, Eq)]
 pub enum How {
     On,
     End,
@@ -40,6 +42,7 @@ pub enum How {
 }
 
 // How many bytes were read or written, and how that ended.
+// Kept: both always say something: bytes that were read stay read where the file ends, or fails.
 #[derive(Clone, Copy)]
 pub struct Taken {
     pub len: usize,
@@ -47,6 +50,7 @@ pub struct Taken {
 }
 
 // How many words the program was called with, its name among them.
+// Kept: the place of a word is what the system is asked by, and no list of them is held.
 fn word_count<R: Env>(rt: &R) -> usize {
     let mut word = [0u8; LONGEST_WORD];
     for i in 0..usize::MAX {
@@ -124,6 +128,7 @@ pub fn open_argument<R: Env + Files + Input + Eprint>(
 }
 
 // How a call that moves bytes ended, by what it answered.
+// Kept: how_of looks at what take_piece then takes; as a From of a loan it reads no plainer.
 fn how_of(got: &io::Result<usize>) -> How
     ensures { result ≡ how_of got.now }
 {
@@ -156,6 +161,7 @@ pub fn take_piece<R: Eprint, S: Read>(rt: &R, source: &mut S, buf: &mut [u8]) ->
 }
 
 // What of a file fits the lent bytes. How the last read ended says whether that is all of it.
+// Kept: here and in write_out a turn moves as many bytes as the system says, which `at` adds up.
 pub fn take_whole<R: Eprint, S: Read>(rt: &R, source: &mut S, buf: &mut [u8]) -> Taken
     ensures { IsPrefixLen result.len buf.new }
 {
@@ -165,10 +171,12 @@ pub fn take_whole<R: Eprint, S: Read>(rt: &R, source: &mut S, buf: &mut [u8]) ->
             break;
         }
         let got = take_piece(rt, source, &mut buf[at..]);
-        let how = got.how;
-        let How::On = how else {
-            return Taken { len: at, how };
-        };
+        if got.how != How::On {
+            return Taken {
+                len: at,
+                how: got.how,
+            };
+        }
         at += got.len;
     }
     Taken {
@@ -205,6 +213,7 @@ fn say_unwritten<R: Eprint>(rt: &R, got: io::Result<usize>) {
 }
 
 // The same of the first n bytes of some room.
+// Kept: a room and how much of it is in use, for there is no heap (docs/FUNCTIONS.md has its name).
 pub fn write_first<R: Print + Eprint>(rt: &R, room: &[u8], n: usize) -> bool
     ensures { First (length room.now) n result }
 {

@@ -1,19 +1,13 @@
 -- 02, No. 6; 01, One night in full, as the program goes through it: what is said of any box (crate lines,
 -- specs/Pieces.antt, and crate files, specs/Turns.antt), said of a frame
 -- box.
-use Rattle.std.specs.Prelude.{List, ℕ, take}
+use Rattle.std.specs.Prelude.{List, ℕ}
 use Rattle.framerun.specs.declared.FrameRun.{FrameRun}
 use Rattle.framerun.specs.Events.{frame_box}
 use Rattle.lines.specs.declared.Held.{Held}
-use Rattle.lines.specs.Pieces.{Stand, piece_in, written_in, Ready}
+use Rattle.lines.specs.Pieces.{Stand, piece_in, written_in}
 use Rattle.files.specs.declared.How.{How}
 use Rattle.files.specs.Turns.{turn_in}
-use Rattle.frame.specs.declared.Night.{Night}
-
--- the answers stand at the front of the room
-abbrev pub standing : Night → List ℕ → Stand FrameRun
-standing n room =
-    record { run = n.run; held = n.held; text = take n.put room; going = n.going }
 
 -- some bytes of the file
 abbrev pub piece_of : FrameRun → Held → List ℕ → Stand FrameRun
@@ -26,7 +20,3 @@ turn_of r h how bytes = turn_in frame_box r h how bytes
 -- what is written of a file that is read in these pieces
 abbrev pub written : FrameRun → Held → List (List ℕ) → List ℕ
 written r h ps = written_in frame_box r h ps
-
--- what holds between two turns
-abbrev pub NightReady : Night → Type 0
-NightReady n = Ready frame_box n.run n.held

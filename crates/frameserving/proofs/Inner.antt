@@ -1,33 +1,26 @@
--- What a frame box is told of many lines at once is what any box is told of them (crate lines,
--- proofs/Serving.antt). Assumes nothing.
-use mathlib.Core.Path.{◌≡◌, ap, ◌∙◌}
-use mathlib.Core.Bool.{true}
+-- What a frame box answers to many lines at once is what any box does (crate lines, specs/Many.antt).
+-- Assumes nothing.
+use mathlib.Core.Path.{◌≡◌}
 use mathlib.Core.List.{List}
-use Prim.Native.Nat.{ℕ, ◌*◌, ◌≤◌}
-use lib.ListN.{length, take}
-use borrow.Author.Tests.{le-leb}
+use Prim.Native.Nat.{ℕ, ◌*◌}
+use lib.Dec.{leb}
+use lib.ListN.{length}
+use Rattle.table.specs.declared.Refusal.TheVariants.{RoomShort, Unsound}
 use Rattle.events.specs.Values.{lines_said}
 use Rattle.framerun.specs.declared.FrameRun.{FrameRun}
-use Rattle.events.specs.declared.Many.{Many}
 use Rattle.framerun.specs.Sound.{frame_sound}
 use Rattle.framerun.specs.Events.{frame_box}
-use Rattle.framerun.specs.Many.{frame_many_of, taken, FrameLent}
-use Rattle.lines.proofs.Serving.{Telling, told_front}
+use Rattle.framerun.specs.Many.{FrameLent, untaken, taken, frame_many_of}
+use Rattle.lines.specs.Many.{LentIn, many_in}
+use Rattle.lines.proofs.Serving.{doors_same}
 
-module _ (r : FrameRun) (values told : List ℕ) (fits : 9 * length (lines_said values) ≤ length told) (many : Many FrameRun)
-    (now : List ℕ)
-    (m : record { many = many; room = now } ≡ frame_many_of r values told) where
-  all_told_lem : frame_sound r ≡ true → record { many = many; room = now } ≡ taken r (lines_said values) told
-  unfolding frame_many_of
-  all_told_lem q = m ∙ rw (q, le-leb (9 * length (lines_said values)) (length told) fits)
+abbrev pub as_any : FrameLent → LentIn FrameRun
+as_any x = record { many = x.many; room = x.room }
 
-  pub many_told : Telling frame_box r (lines_said values) many.answer many.run now
-  unfolding frame_many_of
-  many_told =
-      let ls = lines_said values in
-      record {
-        refused = λ q. ap (λ (x : FrameLent). x.many.answer) m ∙ rw q;
-        taken = λ q. ap (λ (x : FrameLent). x.many.answer) (all_told_lem q);
-        after = λ q. ap (λ (x : FrameLent). x.many.run) (all_told_lem q);
-        front = λ q. ap (λ (x : FrameLent). take (9 * length ls) x.room) (all_told_lem q) ∙ told_front frame_box r ls told;
-      }
+pub many_same : (r : FrameRun) (values room : List ℕ) →
+    as_any (frame_many_of r values room) ≡ many_in frame_box r values room
+unfolding frame_many_of many_in
+many_same r values room =
+    let ls = lines_said values in
+    doors_same as_any (frame_sound r) (leb (9 * length ls) (length room)) (untaken Unsound r room)
+    (untaken RoomShort r room) (taken r ls room)

@@ -1,18 +1,12 @@
 -- 01, One night in full, as the program goes through it: what is said of any box (crate lines,
 -- specs/Pieces.antt, and crate files, specs/Turns.antt), said of the run.
-use Rattle.std.specs.Prelude.{List, ℕ, take}
+use Rattle.std.specs.Prelude.{List, ℕ}
 use Rattle.run.specs.declared.Run.{Run}
 use Rattle.run.specs.Events.{the_box}
 use Rattle.lines.specs.declared.Held.{Held}
-use Rattle.lines.specs.Pieces.{Stand, piece_in, written_in, Ready}
+use Rattle.lines.specs.Pieces.{Stand, piece_in, written_in}
 use Rattle.files.specs.declared.How.{How}
 use Rattle.files.specs.Turns.{turn_in}
-use Rattle.night.specs.declared.Night.{Night}
-
--- the answers stand at the front of the room
-abbrev pub standing : Night → List ℕ → Stand Run
-standing n room =
-    record { run = n.run; held = n.held; text = take n.put room; going = n.going }
 
 -- some bytes of the file
 abbrev pub piece_of : Run → Held → List ℕ → Stand Run
@@ -25,7 +19,3 @@ turn_of r h how bytes = turn_in the_box r h how bytes
 -- what is written of a file that is read in these pieces
 abbrev pub written : Run → Held → List (List ℕ) → List ℕ
 written r h ps = written_in the_box r h ps
-
--- what holds between two turns
-abbrev pub NightReady : Night → Type 0
-NightReady n = Ready the_box n.run n.held

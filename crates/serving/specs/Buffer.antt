@@ -4,7 +4,7 @@ use Rattle.table.specs.declared.Refusal.{Refusal}
 use Rattle.run.specs.declared.Run.{Run}
 use Rattle.run.specs.Events.{the_box}
 use Rattle.lines.specs.declared.Held.{Held}
-use Rattle.lines.specs.Serving.{Service, serve_in}
+use Rattle.lines.specs.Serving.{Service, service_in, serve_in}
 use Rattle.lines.specs.declared.Served.{Served}
 
 -- what is handed back, and the lent room after it
@@ -13,19 +13,11 @@ pub record Buffered : Type 0 where
   pub room : List ℕ
 
 -- nothing of a buffer is taken: what was handed in comes back
-abbrev pub untaken : Refusal → Run → Held → Served Run
+abbrev pub untaken : {S : Type 0} → Refusal → S → Held → Served S
 untaken why r h = record { answer = Err why; run = r; held = h; eaten = 0; put = 0 }
 
 abbrev pub service_of : Buffered → Service Run
-service_of d =
-    record {
-      answer = d.served.answer;
-      run = d.served.run;
-      held = d.served.held;
-      eaten = d.served.eaten;
-      put = d.served.put;
-      room = d.room;
-    }
+service_of d = service_in d.served d.room
 
 abbrev pub buffered_of : Service Run → Buffered
 buffered_of d =

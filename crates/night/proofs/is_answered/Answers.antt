@@ -27,8 +27,10 @@ begun g d t e b p h q =
       held = rw q (sym (held_again []));
     }
 
-pub answer_all-requires : goal.answer_all-requires
-answer_all-requires g c =
-    begun c.take_table.result c.take_table.ensures _
-    (given_taken c.in-Some-take_table.is c.say_refused.ensures c.in-Ok.is)
-    c.start-started.result c.start-started.ensures c.no_line-held.result c.no_line-held.ensures
+pub invariant_of-night : goal.invariant_of-night
+invariant_of-night g c =
+    record {
+      ready =
+          begun c.take_table.result c.take_table.ensures _ (given_taken c.in-Some-take_table.is c.say_refused.ensures c.in-Ok.is)
+          c.start-started.result c.start-started.ensures c.no_line-held.result c.no_line-held.ensures;
+    }
