@@ -21,6 +21,8 @@ use verdict::Fits;
 // No line is longer: a word, a mode and a row of two bytes each, with what parts and closes them.
 const ROOM: usize = 9;
 
+// Kept: put_mode to put_answer take (room, at), as decimal's functions; no heap for a String.
+// Kept: crate printer's store_mode stores the tab before the word with it, in one, and is its own.
 fn put_mode(m: Mode, room: &mut [u8], at: usize) -> usize
     ensures { Put (mode_word m) room.old at room.new result }
 {
@@ -64,11 +66,11 @@ fn line_of(t: Table, room: &mut [u8]) -> usize
     requires { 9 ≤ length room.old }
     ensures { take result room.new ≡ fits_line (fits_of t) }
 {
-    let f = verdict::fits_of(t);
-    put_answer(f, room, 0)
+    put_answer(verdict::fits_of(t), room, 0)
 }
 
 // Whether everything was answered; where not, why was said.
+// Kept: one function for all programs would be public, and what it answers is the system's.
 fn is_answered<R: Runtime>(rt: &R) -> bool {
     let help = b"fits TABLE\n\
         Prints `yes` where no server of the table in the file TABLE misses in any mode,\n\

@@ -16,13 +16,11 @@ fn text_of(t: Table, room: &mut [u8]) -> usize
     requires { 16384 ≤ length room.old }
     ensures { take result room.new ≡ rewritten t }
 {
-    match writer::write_table(t, room) {
-        Ok(n) => n,
-        Err(_) => 0,
-    }
+    writer::write_table(t, room).unwrap_or(0)
 }
 
 // Whether everything was answered; where not, why was said.
+// Kept: one function for all programs would be public, and what it answers is the system's.
 fn is_answered<R: Runtime>(rt: &R) -> bool {
     let help = b"rewrite TABLE\n\
         Prints the table in the file TABLE as it is held, written back.\n\

@@ -1,151 +1,226 @@
-// What the library answers to a table block, as the format prints it.
+// What the library answers to a block, as the format prints it.
 
-use crate::block::{Block, Operation};
-use crate::part;
-use crate::said::{LONGEST_SAID, put_line, put_queues, say_line, say_no, shown};
-use events::{Answer, Answered, Begun, TickAnswer, Told};
-use run::{Run, State};
-use table::{Mode, Refusal, SERVERS, Table};
+ghost use Rattle.std.specs.Prelude.{◌≡◌, ◌≤◌, length, IfOk};
+ghost use Rattle.events.specs.declared.Begun.{Begun};
+ghost use Rattle.events.specs.declared.Event.{Event};
+ghost use Rattle.events.specs.declared.Answered.{Answered};
+
+use crate::block::{Block, Operation, Question, Step};
+use crate::fault::Fault;
+use events::{Answer, Answered, Begun, Event, TickAnswer, Told};
+use framerun::FrameRun;
+use run::Run;
+use std::io;
+use std::io::Write;
+use table::{Refusal, TASKS, Table};
+use text::LONGEST_TEXT;
+use units::Ticks;
 use verdict::{Fits, Verdict};
 
 // What a room holds before it is lent.
 const BEFORE: u8 = b'~';
 
-fn say_verdict<R: Print + Eprint>(rt: &R, t: Table, row: usize, m: Mode) -> bool {
-    match verdict::verdict_of(t, row, m) {
-        Verdict::Response(r) => say_line(rt, b"verdict", &[1, r.0 as u64]),
-        Verdict::Misses => say_line(rt, b"verdict", &[0, 0]),
-        Verdict::No(why) => say_no(rt, why),
-    }
+// A run of either box: how it is started and answers an event, and its state lines.
+trait Boxed: Copy {
+    ghost started: { Self → Begun Self };
+
+    ghost answered: { Self → Event → Answered Self };
+
+    fn started(self) -> Begun<Self>
+        ensures { result ≡ started self };
+
+    fn answered(self, e: Event) -> Answered<Self>
+        ensures { result ≡ answered self e };
+
+    fn put_state<W: Write>(&self, out: &mut W) -> io::Result<()>;
 }
 
-fn say_fits<R: Print + Eprint>(rt: &R, f: Fits) -> bool {
-    match f {
-        Fits::Yes => say_line(rt, b"fits", &[1, 0, 0]),
-        Fits::Miss { mode, row } => say_line(
-            rt,
-            b"fits",
-            &[0, table::mode_value(mode), row as u64],
-        ),
-        Fits::No(why) => say_no(rt, why),
-    }
-}
+impl Boxed for Run {
+    ghost use Rattle.run.specs.Release.{start_of};
+    ghost use Rattle.run.specs.Events.{event_of};
 
-// Whether the room still holds what it did from a place on.
-fn is_kept(room: &[u8], from: usize) -> bool {
-    for i in from..room.len() {
-        if room[i] != BEFORE {
-            return false;
+    ghost started = { λ r. start_of r.table };
+
+    ghost answered = { event_of };
+
+    fn started(self) -> Begun<Run> {
+        scheduler::start(self.table)
+    }
+
+    fn answered(self, e: Event) -> Answered<Run> {
+        match e {
+            Event::Release(task) => scheduler::release(self, task),
+            Event::Tick(mark) => scheduler::tick(self, mark),
         }
     }
-    true
+
+    fn put_state<W: Write>(&self, out: &mut W) -> io::Result<()> {
+        let s = &self.state;
+        write!(out, "state\t{}", table::mode_value(s.mode))?;
+        put_head(out, s.ticks, s.accepted, s.last)?;
+        for (used, elapsed) in s.used.iter().zip(&s.elapsed).take(self.table.nservers) {
+            writeln!(out, "budget\t{used}\t{elapsed}")?;
+        }
+        put_queues(out, &s.waiting, &s.runs, self.table.ntasks)
+    }
 }
 
-// The writer, lent as many bytes of the room as are asked for. The longest text is far shorter than the room.
-fn write_in(t: Table, size: usize, room: &mut [u8]) -> Result<usize, Refusal> {
-    let lent = part::first(size, room);
+impl Boxed for FrameRun {
+    ghost use Rattle.framerun.specs.Release.{start_of};
+    ghost use Rattle.framerun.specs.Events.{event_of};
+
+    ghost started = { λ r. start_of r.table };
+
+    ghost answered = { event_of };
+
+    fn started(self) -> Begun<FrameRun> {
+        framescheduler::start(self.table)
+    }
+
+    fn answered(self, e: Event) -> Answered<FrameRun> {
+        match e {
+            Event::Release(task) => framescheduler::release(self, task),
+            Event::Tick(mark) => framescheduler::tick(self, mark),
+        }
+    }
+
+    fn put_state<W: Write>(&self, out: &mut W) -> io::Result<()> {
+        let s = &self.state;
+        write!(out, "box")?;
+        put_head(out, s.ticks, s.accepted, s.last)?;
+        put_queues(out, &s.waiting, &s.runs, self.table.ntasks)
+    }
+}
+
+// "the row of the last-run task is 0 if there is none"
+// Kept: put_head, put_verdict, put_fits say cases by numbers, as the format (second/STATES.md).
+fn put_head<W: Write>(
+    out: &mut W,
+    ticks: Ticks,
+    accepted: u32,
+    last: Option<usize>,
+) -> io::Result<()> {
+    let any = u8::from(last.is_some());
+    let row = last.unwrap_or(0);
+    writeln!(out, "\t{}\t{accepted}\t{any}\t{row}", ticks.0)
+}
+
+// The queues of the tasks in use.
+fn put_queues<W: Write>(
+    out: &mut W,
+    waiting: &[u8; TASKS],
+    runs: &[u32; TASKS],
+    ntasks: usize,
+) -> io::Result<()> {
+    for (waiting, runs) in waiting.iter().zip(runs).take(ntasks) {
+        writeln!(out, "queue\t{waiting}\t{runs}")?;
+    }
+    Ok(())
+}
+
+fn put_no<W: Write>(out: &mut W, why: Refusal) -> io::Result<()> {
+    writeln!(out, "no\t{}", table::number_of(why))
+}
+
+fn put_begun<W: Write, B: Boxed>(out: &mut W, b: Begun<B>) -> io::Result<()> {
+    match b.answer {
+        Ok(()) => {
+            writeln!(out, "fresh")?;
+            b.run.put_state(out)
+        }
+        Err(why) => put_no(out, why),
+    }
+}
+
+// What is told of a tick as plain numbers is the eight of the format, behind one that says that it
+// is a tick.
+fn put_tick<W: Write>(out: &mut W, a: TickAnswer) -> io::Result<()> {
+    write!(out, "tick")?;
+    for number in &events::told_values(Told::Ticked(a))[1..] {
+        write!(out, "\t{number}")?;
+    }
+    writeln!(out)
+}
+
+fn put_answered<W: Write, B: Boxed>(out: &mut W, a: Answered<B>) -> io::Result<()> {
+    match a.answer {
+        Answer::Released(_) => writeln!(out, "release")?,
+        Answer::Ticked(t) => put_tick(out, t)?,
+        Answer::No(why) => return put_no(out, why),
+    }
+    a.run.put_state(out)
+}
+
+fn put_verdict<W: Write>(out: &mut W, v: Verdict) -> io::Result<()> {
+    match v {
+        Verdict::Response(r) => writeln!(out, "verdict\t1\t{}", r.0),
+        Verdict::Misses => writeln!(out, "verdict\t0\t0"),
+        Verdict::No(why) => put_no(out, why),
+    }
+}
+
+fn put_fits<W: Write>(out: &mut W, f: Fits) -> io::Result<()> {
+    match f {
+        Fits::Yes => writeln!(out, "fits\t1\t0\t0"),
+        Fits::Miss { mode, row } => writeln!(out, "fits\t0\t{}\t{row}", table::mode_value(mode)),
+        Fits::No(why) => put_no(out, why),
+    }
+}
+
+// The writer, lent as many bytes of the room as are asked for.
+#[tactic(auto, unfolding(text::specs::Write::wrote))]
+fn write_in(t: Table, size: usize, room: &mut [u8]) -> Result<usize, Refusal>
+    ensures { IfOk result (λ many. many ≤ length room.new) }
+{
+    let lent = size.min(room.len());
     writer::write_table(t, &mut room[..lent])
 }
 
-// "A writer changes nothing beyond the text", and a refused one nothing at all: what no answer of the format could say is said too.
-fn say_written<R: Print + Eprint>(rt: &R, t: Table, size: usize) -> bool {
-    let mut room = [BEFORE; LONGEST_SAID];
+// "A writer changes nothing beyond the text", and a refused one nothing at all: what no answer of
+// the format could say is said too. The longest text is far shorter than the room.
+fn put_written<W: Write>(out: &mut W, t: Table, size: usize) -> io::Result<()> {
+    let mut room = [BEFORE; LONGEST_TEXT];
     match write_in(t, size, &mut room) {
         Ok(many) => {
-            if !is_kept(&room, many) {
-                return say_line(rt, b"changed beyond the text", &[]);
+            let (text, beyond) = room.split_at(many);
+            if beyond.iter().any(|b| *b != BEFORE) {
+                return writeln!(out, "changed beyond the text");
             }
-            if !say_line(rt, b"write", &[many as u64]) {
-                return false;
-            }
-            files::write_first(rt, &room, many)
+            writeln!(out, "write\t{many}")?;
+            out.write_all(text)
         }
         Err(why) => {
-            if !is_kept(&room, 0) {
-                return say_line(rt, b"changed though refused", &[]);
+            if room.iter().any(|b| *b != BEFORE) {
+                return writeln!(out, "changed though refused");
             }
-            say_no(rt, why)
+            put_no(out, why)
         }
     }
 }
 
-fn put_head(s: State, room: &mut [u8], at: usize) -> usize {
-    let m = s.mode;
-    let mode = table::mode_value(m);
-    let last = s.last;
-    let ticks = s.ticks.0 as u64;
-    let accepted = s.accepted as u64;
-    match last {
-        None => put_line(b"state", &[mode, ticks, accepted, 0, 0], room, at),
-        Some(k) => put_line(b"state", &[mode, ticks, accepted, 1, k as u64], room, at),
-    }
-}
-
-fn put_budget(used: u32, elapsed: u32, room: &mut [u8], at: usize) -> usize {
-    put_line(b"budget", &[used as u64, elapsed as u64], room, at)
-}
-
-fn put_budgets(s: State, n: usize, room: &mut [u8], at: usize) -> usize {
-    let mut k = at;
-    for i in 0..shown(n, SERVERS) {
-        k = put_budget(s.used[i], s.elapsed[i], room, k);
-    }
-    k
-}
-
-// After the line of what was taken, the next state.
-fn say_state<R: Print + Eprint>(rt: &R, word: &[u8], numbers: &[u64], r: Run) -> bool {
-    let t = r.table;
-    let s = r.state;
-    let waiting = s.waiting;
-    let runs = s.runs;
-    let mut room = [0u8; LONGEST_SAID];
-    let k = put_line(word, numbers, &mut room, 0);
-    let k = put_head(s, &mut room, k);
-    let k = put_budgets(s, t.nservers, &mut room, k);
-    let k = put_queues(waiting, runs, t.ntasks, &mut room, k);
-    files::write_first(rt, &room, k)
-}
-
-// What is told of a tick as plain numbers is the eight of the format, behind one that says that it is
-// a tick.
-fn say_tick<R: Print + Eprint>(rt: &R, a: TickAnswer, r: Run) -> bool {
-    let values = events::told_values(Told::Ticked(a));
-    say_state(rt, b"tick", &values[1..], r)
-}
-
-fn say_begun<R: Print + Eprint>(rt: &R, b: Begun<Run>) -> bool {
-    let answer = b.answer;
-    let r = b.run;
-    match answer {
-        Ok(()) => say_state(rt, b"fresh", &[], r),
-        Err(why) => say_no(rt, why),
-    }
-}
-
-fn say_answered<R: Print + Eprint>(rt: &R, a: Answered<Run>) -> bool {
-    let answer = a.answer;
-    let r = a.run;
-    match answer {
-        Answer::Released(_) => say_state(rt, b"release", &[], r),
-        Answer::Ticked(t) => say_tick(rt, t, r),
-        Answer::No(why) => say_no(rt, why),
-    }
-}
-
-// Whether the answer was written.
-pub(crate) fn say_answer<R: Print + Eprint>(rt: &R, b: Block, asked: Operation) -> bool {
-    let t = b.table;
-    let s = b.state;
-    let r = Run { table: t, state: s };
+fn put_step<W: Write, B: Boxed>(out: &mut W, r: B, asked: Step) -> io::Result<()> {
     match asked {
-        Operation::Fresh => say_begun(rt, scheduler::start(t)),
-        Operation::Release(task) => say_answered(rt, scheduler::release(r, task)),
-        Operation::Tick(mark) => say_answered(rt, scheduler::tick(r, mark)),
-        Operation::Verdict(row, m) => say_verdict(rt, t, row, m),
-        Operation::Fits => say_fits(rt, verdict::fits_of(t)),
-        Operation::RunFits => say_fits(rt, fitting::run_fits(r)),
-        Operation::Write(size) => say_written(rt, t, size),
-        Operation::Nothing => true,
+        Step::Fresh => put_begun(out, r.started()),
+        Step::Event(e) => put_answered(out, r.answered(e)),
     }
+}
+
+fn put_question<W: Write>(out: &mut W, r: Run, asked: Question) -> io::Result<()> {
+    match asked {
+        Question::Verdict(row, m) => put_verdict(out, verdict::verdict_of(r.table, row, m)),
+        Question::Fits => put_fits(out, verdict::fits_of(r.table)),
+        Question::RunFits => put_fits(out, fitting::run_fits(r)),
+        Question::Write(size) => put_written(out, r.table, size),
+    }
+}
+
+// "The two kinds do not mix."
+pub(crate) fn put_answer<W: Write>(out: &mut W, b: &Block, asked: Operation) -> Result<(), Fault> {
+    match (b, asked) {
+        (Block::OfTable(b), Operation::OfEither(step)) => put_step(out, b.run(), step)?,
+        (Block::OfFrame(b), Operation::OfEither(step)) => put_step(out, b.run(), step)?,
+        (Block::OfTable(b), Operation::OfTable(question)) => put_question(out, b.run(), question)?,
+        (Block::OfFrame(_), Operation::OfTable(_)) => return Err(Fault::NotInFormat),
+    }
+    Ok(())
 }

@@ -1,76 +1,103 @@
-// A line of the format: a word and then numbers, parted by tabs. It is walked once.
+// A line of the format: a word and then numbers, parted by tabs. Its fields are read one after
+// another, each as what it stands for.
 
-ghost use Rattle.std.specs.Prelude.{◌≤◌, length};
+ghost use Rattle.std.specs.Prelude.{◌≡◌, ◌<◌, ◌^◌, ◌↔◌};
+ghost use Rattle.std.specs.Prelude.{is_none, IsOk, IsSome, IsNone, IfOk, Contains};
 
 use decimal::TAB;
+use table::{ByMode, Mode};
+use units::{Micros, Ticks};
 
-// The greatest number that a field of the format may hold: 32 bits, or 8 where the table and the
-// state of a table block hold no more.
-pub const WIDE: u64 = 4294967295;
-
-pub const BYTE: u64 = 255;
-// The greatest task, row or room that an operation may name here: 11 digits.
-pub const LARGE: u64 = 99999999999;
-// Stands where there is no number, past every bound.
-const NO_NUMBER: u64 = 18446744073709551615;
-// The most fields that a line of the format has, its word among them.
-const FIELDS: usize = 9;
-
-// How many fields a line has, or one more than the most, and the number of each. A word is no
-// number.
+// A line breaks the format.
 #[derive(Clone, Copy)]
-pub struct Fields {
-    pub count: usize,
-    pub values: [u64; FIELDS],
+pub struct Broken;
+
+// What of a line is not read yet: nothing behind its last field.
+#[derive(Clone, Copy)]
+pub struct Fields<'a> {
+    rest: Option<&'a [u8]>,
 }
 
-fn value(field: &[u8]) -> u64 {
-    match decimal::read_number(field) {
-        Some(v) => v,
-        None => NO_NUMBER,
+impl<'a> Fields<'a> {
+    pub(crate) fn of(line: &'a [u8]) -> Fields<'a>
+        ensures { IsSome result.rest }
+    {
+        Fields { rest: Some(line) }
     }
-}
 
-pub(crate) fn word_of<'a>(line: &'a [u8]) -> &'a [u8] {
-    let e = decimal::find(line, 0, TAB);
-    &line[..e]
-}
+    pub(crate) fn text(&mut self) -> Result<&'a [u8], Broken>
+        ensures { IsOk result ↔ IsSome self.old.rest }
+    {
+        let rest = self.rest.ok_or(Broken)?;
+        let end = decimal::find(rest, 0, TAB);
+        self.rest = rest.get(end + 1..);
+        Ok(&rest[..end])
+    }
 
-pub(crate) fn fields_of(line: &[u8]) -> Fields {
-    let mut values = [NO_NUMBER; FIELDS];
-    let mut at = 0;
-    for k in 0..FIELDS {
-        let e = decimal::find(line, at, TAB);
-        values[k] = value(&line[at..e]);
-        if e == line.len() {
-            return Fields {
-                count: k + 1,
-                values,
-            };
-        }
-        at = e + 1;
+    // A number that its type holds.
+    pub(crate) fn number<T: TryFrom<u64>>(&mut self) -> Result<T, Broken>
+    where
+        T::Error: Drop,
+        ensures { IsOk result → IsSome self.old.rest }
+    {
+        let number = decimal::read_number(self.text()?).ok_or(Broken)?;
+        T::try_from(number).map_err(|_| Broken)
     }
-    Fields {
-        count: FIELDS + 1,
-        values,
-    }
-}
 
-// Whether a line is the wanted word and then numbers, one for each bound and within it.
-pub(crate) fn is_line(word: &[u8], f: Fields, wanted: &[u8], most: &[u64]) -> bool
-    requires { length most.now ≤ 8 }
-{
-    if !decimal::is_same(word, wanted) {
-        return false;
+    // One of a closed set, which are numbered from 0 on: "another number breaks the format".
+    pub(crate) fn one_of<T: Copy, const N: usize>(&mut self, all: [T; N]) -> Result<T, Broken>
+        ensures { IfOk result (Contains all) }
+    {
+        let number: usize = self.number()?;
+        all.get(number).copied().ok_or(Broken)
     }
-    if f.count != most.len() + 1 {
-        return false;
+
+    pub(crate) fn flag(&mut self) -> Result<bool, Broken> {
+        self.one_of([false, true])
     }
-    let v = f.values;
-    for k in 0..most.len() {
-        if most[k] < v[k + 1] {
-            return false;
-        }
+
+    pub(crate) fn mode(&mut self) -> Result<Mode, Broken> {
+        Ok(table::mode_said(self.one_of([0, 1, 2])?))
     }
-    true
+
+    // How many rows are in use, or one of them.
+    pub(crate) fn row(&mut self) -> Result<usize, Broken>
+        ensures { IfOk result (λ row. row < 2 ^ 32) }
+    {
+        let row: u32 = self.number()?;
+        Ok(row as usize)
+    }
+
+    pub(crate) fn micros(&mut self) -> Result<Micros, Broken>
+        ensures { IfOk result (λ micros. micros.0 < 2 ^ 32) }
+    {
+        let micros: u32 = self.number()?;
+        Ok(Micros(u64::from(micros)))
+    }
+
+    pub(crate) fn ticks(&mut self) -> Result<Ticks, Broken> {
+        Ok(Ticks(self.number()?))
+    }
+
+    // "in N, D1, D2"
+    pub(crate) fn by_mode(&mut self) -> Result<ByMode<Ticks>, Broken> {
+        Ok(ByMode {
+            n: self.ticks()?,
+            d1: self.ticks()?,
+            d2: self.ticks()?,
+        })
+    }
+
+    pub(crate) fn is_read(&self) -> bool
+        ensures { result ≡ is_none self.now.rest }
+    {
+        self.rest.is_none()
+    }
+
+    // No field is left.
+    pub(crate) fn end(&self) -> Result<(), Broken>
+        ensures { IsOk result ↔ IsNone self.now.rest }
+    {
+        if self.is_read() { Ok(()) } else { Err(Broken) }
+    }
 }

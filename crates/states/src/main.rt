@@ -1,20 +1,25 @@
-// `states FILE`: tables and states by their fields, block by block, and what the library answers to each. The format is in
-// second/STATES.md; `-` is standard input. A line that breaks the format is said on standard error, and ends the program.
+// `states FILE`: tables and states by their fields, block by block, and what the library answers to
+// each. The format is in second/STATES.md; `-` is standard input. A line that breaks the format is
+// said on standard error, and ends the program.
 
 #![tactic(auto)]
 
 mod answer;
 mod block;
-mod frame;
-mod frameanswer;
+mod fault;
+mod frame_block;
 mod line;
-mod part;
-mod said;
+mod rows;
+mod table_block;
+
+ghost use Rattle.std.specs.Prelude.{◌≡◌, min, length, leb};
 
 use crate::block::{Block, Operation};
-use crate::line::{Fields, WIDE, is_line};
+use crate::fault::Fault;
+use crate::line::Fields;
+use decimal::LINE_FEED;
 use files::How;
-use std::io::Read;
+use std::io::{Cursor, Read};
 use std::process::ExitCode;
 use std::rt::Runtime;
 use std::str;
@@ -25,12 +30,22 @@ const LONGEST_LINE: usize = 256;
 // The file is read in pieces of so many bytes.
 const PIECE: usize = 65536;
 
-// What was taken of the file so far: the block that is open, and how many bytes of the line that is not closed yet are held.
+// No answer is longer: 98 lines, or the text of a table.
+const LONGEST_SAID: usize = 16384;
+
+// The line that is not closed yet.
+// Kept: bytes and how many are held (no heap); lines::Held is promised, and has other laws.
+#[derive(Clone, Copy)]
+struct Held {
+    bytes: [u8; LONGEST_LINE],
+    len: usize,
+}
+
+// What was taken of the file so far.
 #[derive(Clone, Copy)]
 struct Feed {
-    block: Block,
-    len: usize,
-    ended: bool,
+    open: Option<Block>,
+    held: Held,
 }
 
 // What is no text is said with escapes.
@@ -41,125 +56,126 @@ fn say<R: Eprint>(rt: &R, what: &str, line: &[u8]) {
     };
 }
 
-// "A block begins with its `table` line", or with its `frame` line.
-fn open_block(b: Block, word: &[u8], f: Fields) -> Block {
-    if is_line(word, f, b"table", &[WIDE, WIDE, WIDE]) {
-        return block::open_table(b, f);
+fn say_answer<R: Print + Eprint>(rt: &R, b: &Block, asked: Operation) -> Result<(), Fault> {
+    let mut said = Cursor::new([0; LONGEST_SAID]);
+    answer::put_answer(&mut said, b, asked)?;
+    if files::write_first(rt, said.get_ref(), said.position() as usize) {
+        Ok(())
+    } else {
+        Err(Fault::Failed)
     }
-    if is_line(word, f, b"frame", &[WIDE, WIDE]) {
-        return frame::open_frame(b, f);
-    }
-    block::broken(b)
-}
-
-// A line that is no operation. "The two kinds do not mix."
-fn take_row(b: Block, word: &[u8], f: Fields) -> Block {
-    if !b.open {
-        return open_block(b, word, f);
-    }
-    if b.framed {
-        return frame::take_row(b, word, f);
-    }
-    block::take_row(b, word, f)
-}
-
-fn say_answer<R: Print + Eprint>(rt: &R, b: Block, asked: Operation) -> bool {
-    let r = b.frame;
-    if b.framed {
-        return frameanswer::say_answer(rt, r, asked);
-    }
-    answer::say_answer(rt, b, asked)
 }
 
 // A line, without its line feed.
-fn take_line<R: Print + Eprint>(rt: &R, b: Block, line: &[u8]) -> Block {
-    if block::is_passed_over(line) {
-        return b;
+fn take_line<R: Print + Eprint>(
+    rt: &R,
+    open: &mut Option<Block>,
+    line: &[u8],
+) -> Result<(), Fault> {
+    // "Empty lines and lines that begin with `#` are passed over."
+    if matches!(line, [] | [b'#', ..]) {
+        return Ok(());
     }
-    let word = line::word_of(line);
-    let f = line::fields_of(line);
-    let asked = block::operation_in(b.framed, word, f);
-    if !block::is_asked(asked) {
-        let taken = take_row(b, word, f);
-        if taken.broken {
-            say(rt, "not in the format: ", line);
+    let mut fields = Fields::of(line);
+    let word = fields.text()?;
+    if let Some(asked) = block::operation_of(word, &mut fields)? {
+        fields.end()?;
+        let block = open.take().ok_or(Fault::NoBlock)?;
+        return say_answer(rt, &block, asked);
+    }
+    match open {
+        Some(block) => block.take_row(word, &mut fields)?,
+        None => *open = Some(Block::opened(word, &mut fields)?),
+    }
+    fields.end()?;
+    Ok(())
+}
+
+impl Held {
+    fn push(&mut self, text: &[u8]) {
+        self.len = decimal::put::put_all(text, &mut self.bytes, self.len);
+    }
+
+    fn text(&self) -> &[u8]
+        ensures { length result.now ≡ min self.now.len 256 }
+    {
+        &self.bytes[..self.len.min(LONGEST_LINE)]
+    }
+
+    // One that fills all that is held is too long.
+    fn is_full(&self) -> bool
+        ensures { result ≡ leb 256 self.now.len }
+    {
+        LONGEST_LINE <= self.len
+    }
+}
+
+impl Feed {
+    fn new() -> Feed {
+        Feed {
+            open: None,
+            held: Held {
+                bytes: [0; LONGEST_LINE],
+                len: 0,
+            },
         }
-        return taken;
     }
-    if !b.open {
-        say(rt, "no block before: ", line);
-        return block::broken(b);
-    }
-    if !say_answer(rt, b, asked) {
-        return block::broken(b);
-    }
-    block::empty()
-}
 
-// The held line, closed. One that fills all that is held is too long.
-fn close_line<R: Print + Eprint>(rt: &R, b: Block, held: &[u8], len: usize) -> Block {
-    if held.len() <= len {
-        say(rt, "too long: ", held);
-        return block::broken(b);
-    }
-    let n = part::first(len, held);
-    take_line(rt, b, &held[..n])
-}
-
-// The lines of a piece of the file. Where it ends within a line, the start of that line is held.
-fn take_lines<R: Print + Eprint>(rt: &R, f: Feed, held: &mut [u8], piece: &[u8]) -> Feed {
-    let mut b = f.block;
-    let mut len = f.len;
-    let mut at = 0;
-    while at < piece.len() {
-        let e = decimal::find(piece, at, decimal::LINE_FEED);
-        len = decimal::put::put_all(&piece[at..e], held, len);
-        if e == piece.len() {
-            break;
+    // The held line, closed. What is wrong with it is said.
+    fn close_line<R: Print + Eprint>(&mut self, rt: &R) -> Result<(), Fault> {
+        let taken = if self.held.is_full() {
+            Err(Fault::TooLong)
+        } else {
+            take_line(rt, &mut self.open, self.held.text())
+        };
+        if let Err(fault) = taken
+            && let Some(what) = fault.said()
+        {
+            say(rt, what, self.held.text());
         }
-        b = close_line(rt, b, held, len);
-        if b.broken {
-            break;
+        self.held.len = 0;
+        taken
+    }
+
+    // The lines of a piece of the file. Where it ends within a line, that line's start is held.
+    fn take_piece<R: Print + Eprint>(&mut self, rt: &R, piece: &[u8]) -> Result<(), Fault> {
+        for part in piece.split_inclusive(|b| *b == LINE_FEED) {
+            match part {
+                [text @ .., LINE_FEED] => {
+                    self.held.push(text);
+                    self.close_line(rt)?;
+                }
+                _ => self.held.push(part),
+            }
         }
-        len = 0;
-        at = e + 1;
+        Ok(())
     }
-    Feed {
-        block: b,
-        len,
-        ended: b.broken,
+
+    // Whether the file ends where a block and a line do; where not, that is said.
+    fn is_ended<R: Eprint>(&self, rt: &R) -> bool {
+        if self.open.is_some() {
+            say(rt, "the last block has no operation", b"");
+        }
+        if 0 < self.held.len {
+            say(rt, "the last line is not closed", b"");
+        }
+        self.open.is_none() && self.held.len == 0
     }
 }
 
-fn take_some<R: Print + Eprint, S: Read>(rt: &R, source: &mut S, f: Feed, held: &mut [u8]) -> Feed {
-    let mut piece = [0u8; PIECE];
-    let got = files::take_piece(rt, source, &mut piece);
-    let n = got.len;
-    let how = got.how;
-    match how {
-        How::On => take_lines(rt, f, held, &piece[..n]),
-        How::End => Feed { ended: true, ..f },
-        How::Failed => Feed {
-            block: block::broken(f.block),
-            ended: true,
-            ..f
-        },
-    }
-}
-
-fn take_all<R: Print + Eprint, S: Read>(rt: &R, source: &mut S, held: &mut [u8]) -> Feed {
-    let mut f = Feed {
-        block: block::empty(),
-        len: 0,
-        ended: false,
-    };
+// Kept: its own loop over the file: a turn can end in a Fault, and writes by itself.
+fn take_all<R: Print + Eprint, S: Read>(rt: &R, source: &mut S) -> Result<Feed, Fault> {
+    let mut feed = Feed::new();
+    let mut piece = [0; PIECE];
     for _ in 0..files::TURNS {
-        if f.ended {
-            break;
+        let got = files::take_piece(rt, source, &mut piece);
+        match got.how {
+            How::On => feed.take_piece(rt, &piece[..got.len])?,
+            How::End => break,
+            How::Failed => return Err(Fault::Failed),
         }
-        f = take_some(rt, source, f, held);
     }
-    f
+    Ok(feed)
 }
 
 // Whether everything was answered; where not, why was said.
@@ -170,19 +186,10 @@ fn is_answered<R: Runtime>(rt: &R) -> bool {
     let Some(mut source) = files::open_argument(rt, 1) else {
         return false;
     };
-    let mut held = [0u8; LONGEST_LINE];
-    let f = take_all(rt, &mut source, &mut held);
-    let b = f.block;
-    if b.broken {
-        return false;
+    match take_all(rt, &mut source) {
+        Ok(feed) => feed.is_ended(rt),
+        Err(_) => false,
     }
-    if b.open {
-        say(rt, "the last block has no operation", b"");
-    }
-    if 0 < f.len {
-        say(rt, "the last line is not closed", b"");
-    }
-    !b.open && f.len == 0
 }
 
 fn main(rt: HostRuntime) -> ExitCode {

@@ -1,11 +1,13 @@
 -- The page of verdicts, put line by line and field by field. Assumes nothing.
-use mathlib.Core.Path.{◌≡◌, sym, ◌∙◌}
+use Rattle.std.proofs.lemmas.List.{get_or-take}
+use mathlib.Core.Path.{◌≡◌, ap, sym, ◌∙◌}
 use mathlib.Core.Bool.{true}
 use mathlib.Core.List.{List, [], ◌∷◌, ◌++◌}
-use Prim.Native.Nat.{ℕ, ◌+◌, ◌<◌}
+use Prim.Native.Nat.{ℕ, ◌+◌, ◌<◌, ◌≤◌}
 use native.Mathlib.Omega.{arith}
 use native.Mathlib.Numerals.{add-one}
-use lib.ListN.{get_or}
+use lib.ListN.{get_or, length, take}
+use lib.Seq.{length-take-le}
 use Rattle.decimal.specs.Number.{digits}
 use Rattle.decimal.specs.Lines.{tab, line_feed, closed}
 use Rattle.decimal.specs.Room.{Put}
@@ -16,7 +18,7 @@ use Rattle.table.specs.Rules.{table_keeps}
 use Rattle.table.proofs.Rules.{few_servers}
 use Rattle.table.specs.declared.ByMode.{ByMode}
 use Rattle.verdict.specs.Fits.{verdicts_of, no_verdicts}
-use Rattle.verdict.proofs.Fitting.{verdicts_at}
+use Rattle.verdict.proofs.Fitting.{verdicts_at, verdicts_length}
 use Rattle.verdicts.specs.Page.{verdict_word, row_line, row_lines}
 use Rattle.verdict.specs.declared.Verdict.{Verdict}
 
@@ -48,9 +50,19 @@ pub rows_none : (vs : List (ByMode Verdict)) (d : List ℕ) (at : ℕ) → Put (
 unfolding row_lines closed
 rows_none vs d at = put_none d at
 
--- whatever stands in the place of a row that there is not
-pub same_row : (t : Table) (i : ℕ) (d : ByMode Verdict) → table_keeps t ≡ true → i < t.nservers →
-    get_or (verdicts_of t) i d ≡ get_or (verdicts_of t) i (no_verdicts NoServer)
-same_row t i d e h =
-    let l : i < 32 = omega (arith, few_servers t e) in
-    verdicts_at t i d l ∙ sym (verdicts_at t i (no_verdicts NoServer) l)
+-- The rows in use are as many as the table has, and hold what is said of each.
+module _ (t : Table) (vs : List (ByMode Verdict)) (same : vs ≡ verdicts_of t) (keeps : table_keeps t ≡ true) where
+  pub all_there : t.nservers ≤ length vs
+  all_there = omega (arith, few_servers t keeps, verdicts_length t, ap length same)
+
+  pub in_use : t.nservers ≡ length (take t.nservers vs)
+  in_use = sym (length-take-le t.nservers vs all_there)
+
+  -- whatever stands in the place of a row that there is not
+  pub same_row : (i : ℕ) (d : ByMode Verdict) → i < length (take t.nservers vs) →
+      get_or (take t.nservers vs) i d ≡ get_or (verdicts_of t) i (no_verdicts NoServer)
+  same_row i d h =
+      let n : i < t.nservers = omega (arith, h, in_use) in
+      let l : i < 32 = omega (arith, n, few_servers t keeps) in
+      get_or-take t.nservers vs i d n ∙ ap (λ us. get_or us i d) same ∙ verdicts_at t i d l ∙
+      sym (verdicts_at t i (no_verdicts NoServer) l)

@@ -21,6 +21,7 @@ use verdict::Verdict;
 // them.
 const ROOM: usize = table::SERVERS * 64;
 
+// Kept: put_verdict to put_row take (room, at), as decimal's functions; no heap for a String.
 fn put_verdict(v: Verdict, room: &mut [u8], at: usize) -> usize
     ensures { Put (verdict_word v) room.old at room.new result }
 {
@@ -42,31 +43,29 @@ fn put_field(v: Verdict, room: &mut [u8], at: usize) -> usize
 fn put_row(row: usize, v: ByMode<Verdict>, room: &mut [u8], at: usize) -> usize
     ensures { Put (closed (row_line row v ∷ [])) room.old at room.new result }
 {
-    let n = v.n;
-    let d1 = v.d1;
-    let d2 = v.d2;
     let k = put_number(row as u64, room, at);
     let k = put_byte(b'\t', room, k);
-    let k = put_field(n, room, k);
-    let k = put_field(d1, room, k);
-    let k = put_verdict(d2, room, k);
+    let k = put_field(v.n, room, k);
+    let k = put_field(v.d1, room, k);
+    let k = put_verdict(v.d2, room, k);
     put_byte(b'\n', room, k)
 }
 
+// Kept: a Table may be any that is handed in: that it keeps the rules is no fact of its type.
 fn put_page(t: Table, room: &mut [u8]) -> usize
     requires { table_keeps t ≡ true }
     ensures { Put (page t) room.old 0 room.new result }
 {
     let all = verdict::verdicts_of(t);
-    let n = t.nservers;
     let mut k = 0;
-    for row in 0..n {
-        k = put_row(row, all[row], room, k);
+    for (row, v) in all[..t.nservers].iter().enumerate() {
+        k = put_row(row, *v, room, k);
     }
     k
 }
 
 // Whether everything was answered; where not, why was said.
+// Kept: one function for all programs would be public, and what it answers is the system's.
 fn is_answered<R: Runtime>(rt: &R) -> bool {
     let help = b"verdicts TABLE\n\
         Prints for each server row of the table in the file TABLE its number and its\n\

@@ -10,4 +10,4 @@ use Rattle.fits.proofs.line_of.Goals as goal
 pub returns : goal.returns
 returns c =
     put_front (fits_line (fits_of c.args.t)) (omega (arith, line_short c.args.t, c.requires))
-    (put_as (ap fits_line c.fits_of-f.ensures) c.put_answer.ensures)
+    (put_as (ap fits_line c.fits_of.ensures) c.put_answer.ensures)
