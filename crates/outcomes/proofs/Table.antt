@@ -1,11 +1,19 @@
 -- The contracts of crate table settle what they answer: two outcomes that one of them allows equal
 -- the same definition's value. Assumes nothing.
-use mathlib.Core.Path.{refl, sym, ◌∙◌}
+use Prim.Native.Nat.{ℕ}
+use mathlib.Core.Path.{◌≡◌, refl, sym, ◌∙◌}
+use mathlib.Core.List.{List, [], Mem, not-mem-nil}
+use denote.RattleType.{RattleType}
+use denote.Param.Laws.{Laws, IsCopy}
+use mir.Syntax.{Dict}
+use Rattle.std.specs.declared.clone.Clone.{Ghosts as Clones}
+use Rattle.table.specs.declared.HasPriority.{Ghosts as Priorities}
 use Rattle.table.proofs.number_of
 use Rattle.table.proofs.no_table
 use Rattle.table.proofs.equal_servers
 use Rattle.table.proofs.equal_tasks
 use Rattle.table.proofs.in_mode
+use Rattle.table.proofs.equal_rows
 use Rattle.table.proofs.largest_of
 use Rattle.table.proofs.is_low
 use Rattle.table.proofs.is_d2
@@ -30,8 +38,21 @@ equal_servers_settled = settled (λ κs a. tt) (λ κs a x y p q. (p ∙ sym q, 
 pub equal_tasks_settled : OneOutcome equal_tasks.Kinds.ps equal_tasks.Kinds.r equal_tasks.Reads.Asked equal_tasks.Reads.Learnt
 equal_tasks_settled = settled (λ κs a. tt) (λ κs a x y p q. (p ∙ sym q, refl))
 
-pub in_mode_settled : OneOutcome in_mode.Kinds.ps in_mode.Kinds.r in_mode.Reads.Asked in_mode.Reads.Learnt
-in_mode_settled = settled (λ κs a. tt) (λ κs a x y p q. (p ∙ sym q, refl))
+-- A generic function is settled at every type of values that hold no reference.
+none_lent : (lives : List ℕ) → lives ≡ [] → (k : ℕ) → Mem k lives → ⊥
+none_lent lives e k m = not-mem-nil (rw e at m)
+
+pub in_mode_settled : (T : RattleType) (l : Laws T) (c : IsCopy T) (g : Clones T.Denot) (d : Dict) → T.lives ≡ [] →
+    OneOutcome (in_mode.Kinds.ps T l c) (in_mode.Kinds.r T l c) (in_mode.Reads.Asked T l c g d)
+    (in_mode.Reads.Learnt T l c g d)
+in_mode_settled T l c g d e =
+    settled (λ κs a k m. absurd (none_lent T.lives e k m)) (λ κs a x y p q. (p ∙ sym q, refl))
+
+pub equal_rows_settled : (T : RattleType) (l : Laws T) (g : Priorities T.Denot) (d : Dict) → T.lives ≡ [] →
+    OneOutcome (equal_rows.Kinds.ps T l) (equal_rows.Kinds.r T l) (equal_rows.Reads.Asked T l g d)
+    (equal_rows.Reads.Learnt T l g d)
+equal_rows_settled T l g d e =
+    settled (λ κs a k m. absurd (none_lent T.lives e k m)) (λ κs a x y p q. (p ∙ sym q, refl))
 
 pub largest_of_settled : OneOutcome largest_of.Kinds.ps largest_of.Kinds.r largest_of.Reads.Asked largest_of.Reads.Learnt
 largest_of_settled = settled (λ κs a. tt) (λ κs a x y p q. (p ∙ sym q, refl))

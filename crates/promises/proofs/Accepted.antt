@@ -10,7 +10,8 @@ use native.Mathlib.Omega.{arith}
 use lib.ListN.{length, get_or, length-take}
 use lib.Seq.{get_or-take}
 use Rattle.laws.specs.Choice.{every, within}
-use Rattle.laws.proofs.Choice.{and_left, every_at, within_high, le_or_lt}
+use Rattle.std.specs.Cmp.{first_so}
+use Rattle.laws.proofs.Choice.{every_at, within_high, le_or_lt}
 use Rattle.laws.proofs.Rows.{all_at}
 use Rattle.table.specs.declared.Mode.{Mode}
 use Rattle.table.specs.declared.Mode.TheVariants.{N, D1, D2}
@@ -39,7 +40,7 @@ absent (s ∷ ss) (suc j) h = absent ss j (omega arith)
 
 rows_held : (t : Table) → table_keeps t ≡ true → t.nservers ≤ 32
 unfolding table_keeps
-rows_held t e = within_high 1 32 t.nservers (and_left (within 1 32 t.nservers) _ e)
+rows_held t e = within_high 1 32 t.nservers (first_so (within 1 32 t.nservers) _ e)
 
 row_kept : (a : Rows) → keeps a ≡ true → (j : ℕ) → j < length a.servers →
     every (server_keeps (get_or a.servers j no_server)) ≡ true

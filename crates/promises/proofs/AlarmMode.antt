@@ -10,7 +10,7 @@ use native.Mathlib.Omega.{arith}
 use lib.Dec.{ltb}
 use borrow.Author.Tests.{ltb-true}
 use Rattle.laws.specs.Choice.{unless◌say◌else◌}
-use Rattle.laws.proofs.Choice.{is_false}
+use Rattle.std.proofs.lemmas.Bool.{false_from_ne_true}
 use Rattle.table.specs.declared.Level.{Level}
 use Rattle.table.specs.declared.Level.TheVariants.{LO, MI, HI}
 use Rattle.table.specs.declared.Mode.{Mode}
@@ -317,7 +317,7 @@ module _ (r : Run) (k : ℕ) (last : r.state.last ≡ Some k) where
     cut_at_limit =
         ap (answered r (sound r) few)
         (tick_cut r.table r.state k last limit
-        (is_false (raises r.state.mode (task_at r.table k).level) (λ u. not-above (ltb-true _ _ u))))
+        (false_from_ne_true (raises r.state.mode (task_at r.table k).level) (λ u. not-above (ltb-true _ _ u))))
 
     but_left : ButLeft k (tick_of r false) (tick_of r true)
     but_left =

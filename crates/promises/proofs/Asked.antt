@@ -15,8 +15,9 @@ use lib.ListN.{length, get_or}
 use borrow.Author.Tests.{eqb-true, eq-eqb, lt-ltb, le-ltb}
 use Rattle.laws.specs.Choice.{unless◌say◌else◌, within}
 use Rattle.laws.specs.Search.{first_failed}
-use Rattle.laws.proofs.Choice.{clash, true_or_false, and_left, and_right, or_true_left}
-use Rattle.laws.proofs.Choice.{or_true_right, or_cases}
+use Rattle.std.proofs.lemmas.Bool.{cases_Bool, or_left, or_right, or_cases}
+use Rattle.std.specs.Cmp.{first_so, second_so}
+use Rattle.laws.proofs.Choice.{clash}
 use Rattle.laws.proofs.Choice.{within_low, within_high, is_within, le_or_lt}
 use Rattle.laws.proofs.Search.{failed_empty, failed_here, one_past, failed_past}
 use Rattle.decimal.specs.Number.{is_number, worth}
@@ -193,7 +194,7 @@ expected_by form fs = expected_from form.least form.fields 0 fs
 form_by_place : (form : Form) (fs : List (List ℕ)) →
     first_failed (form_tests form fs) ≡ first_failed (as_many form fs ∷ expected_by form fs)
 unfolding form_tests
-form_by_place form fs = go (true_or_false (as_many form fs))
+form_by_place form fs = go (cases_Bool (as_many form fs))
   where
     m : ℕ
     m = length form.fields
@@ -247,7 +248,7 @@ is_word f w = (same_eq f w, λ e. rw e (same_self w))
 either : (a b : Bool) {P Q : Type 0} → Tests a P → Tests b Q → Tests (a || b) (P ⊎ Q)
 either a b f g = (
   λ e. elim (or_cases a b e) [ inl p ↦ inl (f.0 p) | inr q ↦ inr (g.0 q) ],
-  λ s. elim s [ inl p ↦ or_true_left a b (f.1 p) | inr q ↦ or_true_right a b (g.1 q) ],
+  λ s. elim s [ inl p ↦ or_left a b (f.1 p) | inr q ↦ or_right a b (g.1 q) ],
 )
 
 number : (f : List ℕ) → Tests (is_number f) (IsNumber f)
@@ -429,9 +430,9 @@ none_tells (q ∷ qs) number field e t =
     let c = none_has qs number field in
     elim t [
       | inl p ↦
-          not_both b (and_left (not b) c e)
+          not_both b (first_so (not b) c e)
           ((both_eq number field q.number q.field).1 (p.1, p.2))
-      | inr p ↦ none_tells qs number field (and_right (not b) c e) p.1
+      | inr p ↦ none_tells qs number field (second_so (not b) c e) p.1
     ]
 
 alone_tells : (k : ℕ) (qs : List {1} Asked) (number field : ℕ) → alone_at k qs number field ≡ true →
@@ -441,22 +442,22 @@ alone_tells (suc k) [] number field e = absurd (clash false e refl)
 alone_tells zero (q ∷ qs) number field e =
     let b = has q number field in
     let c = none_has qs number field in
-    let z = (both_eq number field q.number q.field).0 (and_left b c e) in (
+    let z = (both_eq number field q.number q.field).0 (first_so b c e) in (
       λ t.
           elim t [
             | inl p ↦ p.0
-            | inr p ↦ absurd (none_tells qs number field (and_right b c e) p.1)
+            | inr p ↦ absurd (none_tells qs number field (second_so b c e) p.1)
           ],
       λ f. inl (f, z.0, z.1),
     )
 alone_tells (suc k) (q ∷ qs) number field e =
     let b = has q number field in
     let c = alone_at k qs number field in
-    let f = alone_tells k qs number field (and_right (not b) c e) in (
+    let f = alone_tells k qs number field (second_so (not b) c e) in (
       λ t.
           elim t [
             | inl p ↦
-                not_both b (and_left (not b) c e)
+                not_both b (first_so (not b) c e)
                 ((both_eq number field q.number q.field).1 (p.1, p.2))
             | inr p ↦ (p.0, f.0 p.1)
           ],

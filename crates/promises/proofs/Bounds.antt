@@ -10,7 +10,9 @@ use lib.Dec.{eqb}
 use lib.ListN.{length, drop}
 use borrow.Author.Tests.{le-leb, eq-eqb}
 use Rattle.laws.specs.RoundUp.{up}
-use Rattle.laws.proofs.Choice.{and_true, and_left, and_right, le_or_lt}
+use Rattle.std.proofs.lemmas.Bool.{and_from}
+use Rattle.std.specs.Cmp.{first_so, second_so}
+use Rattle.laws.proofs.Choice.{le_or_lt}
 use Rattle.table.specs.declared.Mode.TheVariants.{N}
 use Rattle.table.specs.declared.Table.{Table}
 use Rattle.table.specs.Rows.{server_at, period_at, phase_at, capacity_at, is_timed}
@@ -62,8 +64,8 @@ unfolding sound
 first_bound_anywhere r es i s W shape e h m =
     let keeps = table_keeps r.table in
     let state = sound_state r.table r.state in
-    let a = accepted r.table (and_left keeps state e) in
-    let z = state_facts r.table r.state (and_right keeps state e) in
+    let a = accepted r.table (first_so keeps state e) in
+    let z = state_facts r.table r.state (second_so keeps state e) in
     let f = follows r es a.few shape in
     charged_most
     r.table
@@ -147,10 +149,10 @@ periods_from_the_start t es ms i q T F e r l p g h = rw (p, g) (go (le_or_lt 1 (
         le-leb (phase_at t i) (tick_at ms s).found.ticks.0 (omega (arith, f.number s (omega (arith, n)))) in
         let long = eqb (length (in_row ms s P)) P in
         let new = eqb (elapsed_first i (in_row ms s P)) 0 in
-        and_true
+        and_from
         (long && new)
         (started_first t i (in_row ms s P))
-        (and_true long new (eq-eqb (length (in_row ms s P)) P (in_row_length ms s P n))
+        (and_from long new (eq-eqb (length (in_row ms s P)) P (in_row_length ms s P n))
         (eq-eqb (elapsed_first i (in_row ms s P)) 0 c))
         b
     go (inr o) = let z : period_at t i ≡ 0 = omega arith in rw z

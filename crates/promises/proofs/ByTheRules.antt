@@ -8,7 +8,9 @@ use Prim.Native.Nat.{ℕ, zero, suc, ◌+◌, ◌<◌}
 use native.Mathlib.Omega.{arith}
 use lib.Dec.{eqb}
 use borrow.Author.Tests.{leb-true, le-leb, eqb-true, eqb-false, eq-eqb, ne_eqb, ltb-true, ltb-false, lt-ltb}
-use Rattle.laws.proofs.Choice.{clash, is_false, if_ind, true_or_false, and_left, and_right, and_true}
+use Rattle.std.proofs.lemmas.Bool.{false_from_ne_true, cases_Bool, and_from}
+use Rattle.std.specs.Cmp.{first_so, second_so}
+use Rattle.laws.proofs.Choice.{clash, if_ind}
 use Rattle.laws.specs.Rows.{any_below}
 use Rattle.laws.proofs.Rows.{any_at, any_none, any_found}
 use Rattle.laws.proofs.Highest.{highest_exactly, none_exactly}
@@ -110,7 +112,7 @@ pub waits_or_none : (x : OneTick) →
 waits_or_none x =
     let some = task_waits (new x) in
     let n = (table x).ntasks in
-    elim (true_or_false (any_below n some)) [
+    elim (cases_Bool (any_below n some)) [
       | inl e ↦ let f = any_found some n e in inl (f.0, f.1, ltb-true 0 (waiting_at (new x) f.0) f.2)
       | inr e ↦ inr (λ k l. omega (arith, ltb-false 0 (waiting_at (new x) k) (any_none some n k e l)))
     ]
@@ -163,7 +165,7 @@ module _ (t : Table) (s : State) (mark : Bool) (rules : TableRules t) (shape : S
 
   stayed : (k : ℕ) → (Discarded x w k → ⊥) → drops t s.mode one k ≡ false
   stayed k n =
-      elim (true_or_false (drops t s.mode one k)) [
+      elim (cases_Bool (drops t s.mode one k)) [
         | inl e ↦ absurd (n ((dropped x w one k refl).0 e))
         | inr e ↦ e
       ]
@@ -221,17 +223,17 @@ module _ (t : Table) (s : State) (mark : Bool) (rules : TableRules t) (shape : S
   waits_is i k = (
     λ h. (
       h.there,
-      and_true (task_waits z k) (eqb (owner z.mode (task_at t k)) i) (lt-ltb 0 (waiting_at z k) h.waiting)
+      and_from (task_waits z k) (eqb (owner z.mode (task_at t k)) i) (lt-ltb 0 (waiting_at z k) h.waiting)
           (eq-eqb (owner z.mode (task_at t k)) i ((owner_exactly z.mode (task_at t k) i).1 h.belongs)),
     ),
     λ p.
         record {
           there = p.0;
-          waiting = ltb-true 0 (waiting_at z k) (and_left (task_waits z k) (eqb (owner z.mode (task_at t k)) i) p.1);
+          waiting = ltb-true 0 (waiting_at z k) (first_so (task_waits z k) (eqb (owner z.mode (task_at t k)) i) p.1);
           belongs =
               (owner_exactly z.mode (task_at t k) i).0
               (eqb-true (owner z.mode (task_at t k)) i
-              (and_right (task_waits z k) (eqb (owner z.mode (task_at t k)) i) p.1));
+              (second_so (task_waits z k) (eqb (owner z.mode (task_at t k)) i) p.1));
         },
   )
 
@@ -345,7 +347,7 @@ module _ (t : Table) (s : State) (mark : Bool) (rules : TableRules t) (shape : S
       aged i l = elapsed_after t s mark i l rules.servers_high shape
 
       late : (i : ℕ) → (Started x i → ⊥) → started t z i ≡ false
-      late i n = is_false (started t z i) (λ e. n ((started_is i).1 e))
+      late i n = false_from_ne_true (started t z i) (λ e. n ((started_is i).1 e))
 
   by8 : Says x w
   unfolding tick_taken advance choose

@@ -10,7 +10,8 @@ use Prim.Native.Nat.{ℕ, ◌≤◌, ◌<◌}
 use native.Mathlib.Omega.{arith}
 use lib.Dec.{ltb}
 use Rattle.laws.specs.Choice.{unless◌say◌else◌}
-use Rattle.laws.proofs.Choice.{true_or_false, le_or_lt}
+use Rattle.std.proofs.lemmas.Bool.{cases_Bool}
+use Rattle.laws.proofs.Choice.{le_or_lt}
 use Rattle.table.specs.declared.Mode.{Mode}
 use Rattle.table.specs.declared.Table.{Table}
 use Rattle.table.specs.declared.Refusal.TheVariants.{NoTask, LowInD2, QueueFull, NoJobRan}
@@ -101,7 +102,7 @@ each_start t =
       no_13 = start_13 t;
       taken = (
         λ e.
-            elim (true_or_false (table_keeps t)) [
+            elim (cases_Bool (table_keeps t)) [
               | inl k ↦ k
               | inr k ↦ let q = (start_13 t).1 k in absurd (omega arith)
             ],
@@ -261,7 +262,7 @@ module _ (t : Table) (m : Mode) (i : ℕ) where
   served_0 e h = ap verdict_number (verdict_told t m i e h) ∙ told_0 (response_at t m i)
 
   verdict_case : VerdictCase (verdict_number (verdict_of t i m))
-  verdict_case = go (true_or_false (table_keeps t)) (le_or_lt t.nservers i)
+  verdict_case = go (cases_Bool (table_keeps t)) (le_or_lt t.nservers i)
     where
       go : (table_keeps t ≡ true) ⊎ (table_keeps t ≡ false) → (t.nservers ≤ i) ⊎ (i < t.nservers) →
           VerdictCase (verdict_number (verdict_of t i m))

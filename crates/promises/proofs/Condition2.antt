@@ -6,7 +6,8 @@ use mathlib.Core.Logic.{inl, inr}
 use Prim.Native.Nat.{ℕ}
 use native.Mathlib.Omega.{arith}
 use native.Mathlib.Nat.{mul-le-mul_right}
-use Rattle.laws.proofs.Choice.{clash, true_or_false}
+use Rattle.std.proofs.lemmas.Bool.{cases_Bool}
+use Rattle.laws.proofs.Choice.{clash}
 use Rattle.laws.proofs.RoundUp.{up_le, le_up}
 use Rattle.table.specs.Rows.{task_at, is_low}
 use Rattle.table.proofs.Rows.{low_exactly}
@@ -163,7 +164,7 @@ pub jobs_counted_of : JobsCountedOf
 jobs_counted_of t es given k z e q l n =
     rw q
     (jobs_balance_kept t es z e k l
-    (elim (true_or_false (is_low (task_at t k).level)) [
+    (elim (cases_Bool (is_low (task_at t k).level)) [
       | inl y ↦ absurd (n ((low_exactly (task_at t k).level).0 y))
       | inr y ↦ y
     ]))

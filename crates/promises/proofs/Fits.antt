@@ -9,7 +9,8 @@ use mathlib.Core.Logic.{◌⊎◌, inl, inr, ◌↔◌}
 use Prim.Native.Nat.{ℕ, ◌≤◌, ◌<◌}
 use native.Mathlib.Omega.{arith}
 use lib.ListN.{length, get_or}
-use Rattle.laws.proofs.Choice.{true_or_false, clash}
+use Rattle.std.proofs.lemmas.Bool.{cases_Bool}
+use Rattle.laws.proofs.Choice.{clash}
 use Rattle.table.specs.declared.Mode.{Mode}
 use Rattle.table.specs.declared.Mode.TheVariants.{N}
 use Rattle.table.specs.declared.Table.{Table}
@@ -73,7 +74,7 @@ pub state_as_table : StateAsTable
 state_as_table = run_as_table
 
 pub state_refused_13 : StateRefused13
-state_refused_13 r = by_test (fits_number (run_fits r)) (sound r) (go (true_or_false (sound r)))
+state_refused_13 r = by_test (fits_number (run_fits r)) (sound r) (go (cases_Bool (sound r)))
   where
     go : (sound r ≡ true) ⊎ (sound r ≡ false) →
         ((fits_number (run_fits r) ≡ 13) × (sound r ≡ false)) ⊎ ((fits_number (run_fits r) ≡ 0) × (sound r ≡ true))

@@ -9,7 +9,9 @@ use native.Mathlib.Omega.{arith}
 use lib.Dec.{eqb}
 use lib.ListN.{length}
 use borrow.Author.Tests.{ltb-true, lt-ltb, eqb-true, eq-eqb}
-use Rattle.laws.proofs.Choice.{if_ind, clash, and_left, and_right, and_true, within_high}
+use Rattle.std.specs.Cmp.{first_so, second_so}
+use Rattle.std.proofs.lemmas.Bool.{and_from}
+use Rattle.laws.proofs.Choice.{if_ind, clash, within_high}
 use Rattle.laws.proofs.Highest.{highest_exactly, none_exactly}
 use Rattle.text.specs.Read.{reading_number}
 use Rattle.text.proofs.Refused.{reading_0}
@@ -106,11 +108,11 @@ module _ (t : FrameTable) (s : FrameState) (p : ℕ)
   is j =
       let w : Bool = waits_in (queues_of s) j in
       let o : Bool = eqb (partition_at t j) p in (
-        λ q. (q.0, and_true w o (lt-ltb 0 (waiting_at s j) q.1) (eq-eqb (partition_at t j) p q.2)),
+        λ q. (q.0, and_from w o (lt-ltb 0 (waiting_at s j) q.1) (eq-eqb (partition_at t j) p q.2)),
         λ q. (
           q.0,
-          ltb-true 0 (waiting_at s j) (and_left w o q.1),
-          eqb-true (partition_at t j) p (and_right w o q.1),
+          ltb-true 0 (waiting_at s j) (first_so w o q.1),
+          eqb-true (partition_at t j) p (second_so w o q.1),
         ),
       )
 

@@ -8,7 +8,8 @@ use native.Mathlib.Omega.{arith}
 use lib.ListN.{length, get_or, take, drop, length-drop, length-take}
 use lib.Seq.{take-suc, drop-cons, get_or-drop, get_or-take, take-take, length-take-le}
 use borrow.Author.Tests.{ne_eqb}
-use Rattle.laws.proofs.Choice.{clash, and_left, and_right, larger_left, larger_right}
+use Rattle.std.specs.Cmp.{first_so, second_so}
+use Rattle.laws.proofs.Choice.{clash, larger_left, larger_right}
 use Rattle.bounds.proofs.Windows.{window, window_none, window_next}
 use Rattle.table.specs.declared.Mode.{Mode}
 use Rattle.table.specs.declared.Mode.TheVariants.{N, D1, D2}
@@ -105,8 +106,8 @@ is_normal_lem D2 e = absurd (clash false e refl)
 normal_each : (ms : List TakenTick) → normal ms ≡ true → (x : ℕ) → x < length ms → (tick_at ms x).answer.mode ≡ N
 unfolding normal
 normal_each [] e x h = absurd (omega arith)
-normal_each (m ∷ ms) e zero h = is_normal_lem m.answer.mode (and_left (is_normal m.answer.mode) (normal ms) e)
-normal_each (m ∷ ms) e (suc x) h = normal_each ms (and_right (is_normal m.answer.mode) (normal ms) e) x (omega arith)
+normal_each (m ∷ ms) e zero h = is_normal_lem m.answer.mode (first_so (is_normal m.answer.mode) (normal ms) e)
+normal_each (m ∷ ms) e (suc x) h = normal_each ms (second_so (is_normal m.answer.mode) (normal ms) e) x (omega arith)
 
 pub normal_at : (ms : List TakenTick) (w : ℕ) → normal (in_row ms 0 w) ≡ true → w ≤ length ms → (x : ℕ) → x < w →
     (tick_at ms x).answer.mode ≡ N
@@ -125,14 +126,14 @@ waits_each : (t : Table) (i c : ℕ) (ms : List TakenTick) → waits_until t i c
 unfolding charges
 waits_each t i c [] e x h l = absurd (omega arith)
 waits_each t i c (m ∷ ms) e zero h l =
-    and_left (waits t m.found i) (waits_until t i (c - charged m.answer.turn i) ms) (still t i c m ms e (omega arith))
+    first_so (waits t m.found i) (waits_until t i (c - charged m.answer.turn i) ms) (still t i c m ms e (omega arith))
 waits_each t i c (m ∷ ms) e (suc x) h l =
     waits_each
     t
     i
     (c - charged m.answer.turn i)
     ms
-    (and_right (waits t m.found i) (waits_until t i (c - charged m.answer.turn i) ms) (still t i c m ms e (omega arith)))
+    (second_so (waits t m.found i) (waits_until t i (c - charged m.answer.turn i) ms) (still t i c m ms e (omega arith)))
     x
     (omega arith)
     (omega arith)

@@ -13,7 +13,9 @@ use lib.Dec.{ltb, eqb}
 use lib.ListN.{length, take}
 use borrow.Author.Tests.{eq-eqb, eqb-true}
 use Rattle.laws.specs.Rows.{sum_below}
-use Rattle.laws.proofs.Choice.{clash, if_ind, and_true, and_left, and_right, true_or_false, larger_right}
+use Rattle.std.proofs.lemmas.Bool.{and_from, cases_Bool}
+use Rattle.std.specs.Cmp.{first_so, second_so}
+use Rattle.laws.proofs.Choice.{clash, if_ind, larger_right}
 use Rattle.laws.proofs.Rows.{sum_cong, sum_add, sum_zero}
 use Rattle.decimal.specs.Lines.{split}
 use Rattle.table.specs.declared.Kind.TheVariants.{Event as EventKind}
@@ -110,7 +112,7 @@ over_le f g [] h = omega arith
 over_le f g (m ∷ ms) h = omega (arith, h m, over_le f g ms h)
 
 empty_timed : (t : Table) (z : State) (i : ℕ) → choose t z ≡ Empty i → is_timed (server_at t i).kind ≡ true
-empty_timed t z i e = go (true_or_false (waits t z i))
+empty_timed t z i e = go (cases_Bool (waits t z i))
   where
     c : charged (choose t z) i ≡ 1
     c = ap (λ u. charged u i) e ∙ one_same i
@@ -176,12 +178,12 @@ module _ (t : Table) (i : ℕ) where
   passed m e =
       let w : Bool = waits t m.found i in
       let c : Bool = eqb (charged m.answer.turn i) 0 in
-      (and_left w c e, eqb-true (charged m.answer.turn i) 0 (and_right w c e))
+      (first_so w c e, eqb-true (charged m.answer.turn i) 0 (second_so w c e))
 
   is_passed : (m : TakenTick) → PassedOver t i m → passed_over t i m ≡ true
   unfolding passed_over
   is_passed m p =
-      and_true (waits t m.found i) (eqb (charged m.answer.turn i) 0) p.0
+      and_from (waits t m.found i) (eqb (charged m.answer.turn i) 0) p.0
       (eq-eqb (charged m.answer.turn i) 0 p.1)
 
   -- the first ticks

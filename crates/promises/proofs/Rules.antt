@@ -13,7 +13,8 @@ use lib.Dec.{eqb}
 use borrow.Author.Tests.{leb-false, lt-leb, eqb-true, eq-eqb, not-true}
 use Rattle.laws.specs.Choice.{every, within}
 use Rattle.laws.specs.Rows.{all_below}
-use Rattle.laws.proofs.Choice.{clash, is_false}
+use Rattle.std.proofs.lemmas.Bool.{false_from_ne_true}
+use Rattle.laws.proofs.Choice.{clash}
 use Rattle.laws.proofs.Rows.{all_at, all_build}
 use Rattle.decimal.specs.Lines.{line_feed, split}
 use Rattle.table.specs.declared.ByMode.{ByMode}
@@ -254,7 +255,7 @@ not_zero_lem (Some u) = (
   λ e q.
       let z : u ≡ record { 0 = 0 } = cc in
       clash (eqb u.0 0) (eq-eqb u.0 0 (ap (λ (x : Micros). x.0) z)) (not-true (eqb u.0 0) e),
-  λ f. rw (is_false (eqb u.0 0) (λ e. f (ap Some (of_none u (eqb-true u.0 0 e))))),
+  λ f. rw (false_from_ne_true (eqb u.0 0) (λ e. f (ap Some (of_none u (eqb-true u.0 0 e))))),
 )
   where
     of_none : (x : Micros) → x.0 ≡ 0 → x ≡ record { 0 = 0 }

@@ -10,7 +10,8 @@ use lib.ListN.{get_or}
 use lib.Seq.{get_or-take}
 use borrow.Author.Tests.{eq-eqb, ne_eqb, lt-ltb, ltb-true}
 use Rattle.laws.specs.Rows.{sum_below}
-use Rattle.laws.proofs.Choice.{clash, is_false, true_or_false, le_or_lt}
+use Rattle.std.proofs.lemmas.Bool.{false_from_ne_true, cases_Bool}
+use Rattle.laws.proofs.Choice.{clash, le_or_lt}
 use Rattle.laws.proofs.Rows.{sum_cong}
 use Rattle.table.specs.declared.Mode.{Mode}
 use Rattle.table.specs.declared.Server.{Server}
@@ -81,7 +82,7 @@ judging_comes t k c (rises m m' l e u j) (suc i) h =
     (judging_comes t k c j i (enough_raised i m (task_at t k).level u h))
 judging_comes t k c (is_cut m e n) (suc i) h =
     rw
-    (eq-eqb c (limit_at t m k) e, is_false (raises m (task_at t k).level) (λ u. n (ltb-true _ _ u)))
+    (eq-eqb c (limit_at t m k) e, false_from_ne_true (raises m (task_at t k).level) (λ u. n (ltb-true _ _ u)))
     (refl, refl)
 
 judging_same : (t u : Table) (k c : ℕ) {m m' m'' : Mode} {l l' : Left} → task_at t k ≡ task_at u k →
@@ -212,7 +213,7 @@ pub discarded_or_not : (x : OneTick) (w : OnTheWay) (k : ℕ) → Discarded x w 
 discarded_or_not x w k =
     let s = with_mode (old x) w.mode in
     let d = dropped x w s k refl in
-    elim (true_or_false (drops (table x) (old x).mode s k)) [
+    elim (cases_Bool (drops (table x) (old x).mode s k)) [
       | inl e ↦ inl (d.0 e)
       | inr e ↦ inr (λ g. clash (drops (table x) (old x).mode s k) (d.1 g) e)
     ]

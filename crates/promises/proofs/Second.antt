@@ -13,7 +13,9 @@ use lib.Dec.{ltb, eqb}
 use lib.ListN.{length, drop}
 use borrow.Author.Tests.{leb-true, leb-false, le-leb, ltb-true, lt-ltb, eqb-true}
 use Rattle.laws.specs.Rows.{sum_below}
-use Rattle.laws.proofs.Choice.{and_left, and_right, or_cases, le_or_lt, true_or_false}
+use Rattle.std.specs.Cmp.{first_so, second_so}
+use Rattle.std.proofs.lemmas.Bool.{or_cases, cases_Bool}
+use Rattle.laws.proofs.Choice.{le_or_lt}
 use Rattle.laws.proofs.Rows.{sum_cong}
 use Rattle.bounds.proofs.Windows.{window, rows_fewer}
 use Rattle.bounds.proofs.Ledger.{Next, goes, refills, Account, account_of, Clean}
@@ -136,7 +138,7 @@ module _ (t : Table) (ms : List TakenTick) (f : Follows t fresh ms) (a : Accepte
         Clean (capacity_at t N j) (course t ms j) (suc x)
     unfolding Free
     spent j l u k x m q =
-        elim (true_or_false (started t z j)) [
+        elim (cases_Bool (started t z j)) [
           | inl b ↦ go b (le_or_lt (capacity_at t N j) (used_at z j))
           | inr b ↦ inl (until_started t ms f j (omega (arith, a.used)) (a.server j l).period_low (suc x) (later b) (omega arith)).0
         ]
@@ -291,10 +293,10 @@ module _ (t : Table) (ms : List TakenTick) (f : Follows t fresh ms) (a : Accepte
       let long = eqb (length (in_row ms s T)) T in
       let new = eqb (elapsed_first i (in_row ms s T)) 0 in
       let on = started_first t i (in_row ms s T) in
-      let r = and_left (long && new) on q in
-      let h : s + T ≤ length ms = in_row_taken ms s T (eqb-true (length (in_row ms s T)) T (and_left long new r)) o in
-      let d = sym (elapsed_in_row i ms s T (omega arith) o) ∙ eqb-true (elapsed_first i (in_row ms s T)) 0 (and_right long new r) in
-      let b = begun (omega arith) (sym (started_in_row t i ms s T (omega arith) o) ∙ and_right (long && new) on q) in
+      let r = first_so (long && new) on q in
+      let h : s + T ≤ length ms = in_row_taken ms s T (eqb-true (length (in_row ms s T)) T (first_so long new r)) o in
+      let d = sym (elapsed_in_row i ms s T (omega arith) o) ∙ eqb-true (elapsed_first i (in_row ms s T)) 0 (second_so long new r) in
+      let b = begun (omega arith) (sym (started_in_row t i ms s T (omega arith) o) ∙ second_so (long && new) on q) in
       let z = whole t ms f a (s + T) h (normal_at ms (s + T) n h) i R s row v.meets d b v.to_period (omega arith) in
       let y = z (needs t ms i s T (capacity_at t N i) h w) in
       (charges_window t i ms s T h ∙ y.1, charges_window t i ms s R (omega (arith, v.to_period)) ∙ y.0)

@@ -7,7 +7,9 @@ use Prim.Native.Nat.{ℕ, ◌≤◌, ◌<◌}
 use lib.Dec.{leb, ltb, eqb}
 use borrow.Author.Tests.{leb-true, le-leb, ltb-true, lt-ltb, eqb-true, eq-eqb}
 use Rattle.laws.specs.Choice.{within}
-use Rattle.laws.proofs.Choice.{and_true, and_left, and_right, within_low, within_high, is_within}
+use Rattle.std.proofs.lemmas.Bool.{and_from}
+use Rattle.std.specs.Cmp.{first_so, second_so}
+use Rattle.laws.proofs.Choice.{within_low, within_high, is_within}
 use Rattle.promises.specs.Condition1.{Within}
 
 -- a test holds exactly if P is so
@@ -28,8 +30,8 @@ is_in l h x = (λ e. (within_low l h x e, within_high l h x e), λ p. is_within 
 
 pub both : (a b : Bool) {P Q : Type 0} → Tests a P → Tests b Q → Tests (a && b) (P × Q)
 both a b f g = (
-  λ e. (f.0 (and_left a b e), g.0 (and_right a b e)),
-  λ p. and_true a b (f.1 p.0) (g.1 p.1),
+  λ e. (f.0 (first_so a b e), g.0 (second_so a b e)),
+  λ p. and_from a b (f.1 p.0) (g.1 p.1),
 )
 
 -- what `All` lists, one after the other
