@@ -37,6 +37,6 @@ no_frame_rows = record { tick = record { 0 = 0 }; tasks = [] }
 unfoldable pub frame_table_of : FrameRows → FrameTable
 frame_table_of a = record { tick = a.tick; ntasks = length a.tasks; tasks = padded 64 no_frame_task a.tasks }
 
--- the table beside a refusal: no tick and no rows
+-- the table of nothing, which stands beside a refusal in what is read: no tick and no rows
 abbrev pub no_frame_table : FrameTable
 no_frame_table = frame_table_of no_frame_rows

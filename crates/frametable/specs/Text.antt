@@ -83,7 +83,8 @@ unfoldable pub frame_read : List ℕ → ReadOf FrameRows
 unfolding read_text read_lines
 frame_read = read_text frame_text
 
--- As the reader hands it back: the table beside a refusal is no_frame_table.
+-- The answer with the table that the rows make: of a refused text that is no_frame_table. The reader
+-- hands it back as `handed` of crate text says: the table, or why there is none.
 unfoldable pub frame_shown : ReadOf FrameRows → Read FrameTable
 frame_shown r = record { answer = r.answer; table = frame_table_of r.rows }
 

@@ -49,7 +49,7 @@ pub enum FrameLine {
     Malformed(Word, usize),
 }
 
-// The table that stands beside a refusal, and that reading begins with: no tick and no rows.
+// The table that reading begins with: no tick and no rows.
 // Kept: zeros are written out: Ticks and Micros have no default.
 #[tactic(auto, unfolding(crate::specs::Rows::frame_table_of))]
 pub fn no_frame_table() -> FrameTable

@@ -49,7 +49,7 @@ use Rattle.run.proofs.ManyLines.{find_as_it_was, find_beyond}
 use Rattle.lines.specs.Print.{longest_answer}
 use Rattle.lines.proofs.Cutting.{cut_12, cut_0, cut_as_it_was, cut_beyond}
 use Rattle.lines.proofs.Print.{print_12, print_0, print_as_it_was, print-beyond}
-use Rattle.promises.specs.Condition1.{NoTableBack, NoTableKeepsNone, ReadKeeps, RowsRead}
+use Rattle.promises.specs.Condition1.{read_as, NoTableBack, NoTableKeepsNone, ReadKeeps, RowsRead, EachHandedBack, EachHandedNumber}
 use Rattle.promises.specs.Condition1.{EachLine, EachFault, EachStart, EachRelease, EachTick}
 use Rattle.promises.specs.Condition1.{counting, NeitherCount}
 use Rattle.promises.specs.Condition1.{RefusedChangesNothing, EachMany, EachFind, EachWrite, RoomEnough}
@@ -58,11 +58,12 @@ use Rattle.promises.specs.Condition1.{EachVerdict}
 use Rattle.promises.specs.Condition1.{EachCut, EachPrint, AnswerLines, TableLines}
 use Rattle.promises.specs.Condition1.{DegradedLines, PairLines}
 use Rattle.promises.proofs.Opened.{opened}
-use Rattle.promises.proofs.Reading.{is_taken_lem, refused_rows}
+use Rattle.promises.proofs.Reading.{is_taken_lem, refused_rows, each_read}
 use Rattle.promises.proofs.Tests.{◌and◌}
 use Rattle.promises.proofs.Asked.{line_told_lem, faults}
 use Rattle.promises.proofs.Rules.{times_whole_lem, no_phase_zero_lem}
 use Rattle.text.specs.TableText.{Reading}
+use Rattle.text.proofs.TableText.{handed_back}
 
 -- The reader: each-read of Reading.antt, and
 pub no_table_back : NoTableBack
@@ -86,6 +87,12 @@ rows_read text a = (
       ∙ ap takenRows (sym (table_rows (read text).rows) ∙ p.1)),
   λ w. let e = (taken_exactly text a).1 w in rw e ((refl, refl), table_rows a),
 )
+
+pub each_handed_back : EachHandedBack
+each_handed_back text = handed_back (read_as text)
+
+pub each_handed_number : EachHandedNumber
+each_handed_number text k told = rw (handed_back (read_as text)).answer (each_read text k told)
 
 -- A line, and 41 to 45.
 pub each_line : EachLine

@@ -1,5 +1,6 @@
 -- Each dummy of specs/Dummies.antt is refuted by one input, worked out; those that invent
 -- something, by the rules of a tick. Assumes nothing.
+use Rattle.std.proofs.Common.{Result}
 use mathlib.Core.Path.{◌≡◌, refl, ap, sym, ◌∙◌}
 use mathlib.Core.Bool.{Bool, false}
 use mathlib.Core.Logic.{inl, inr}
@@ -30,13 +31,16 @@ use Rattle.promises.proofs.Condition2.{every_tick}
 use Rattle.promises.proofs.RulesSettle.{charged_top}
 use Rattle.promises.proofs.Opened.{opened}
 use Rattle.table.specs.declared.Table.{Table}
-use Rattle.text.specs.TableText.{Read}
+use Rattle.text.specs.declared.ReadError.{ReadError}
+use Rattle.text.specs.TableText.{handed, answer_in}
 
 pub no_reader : NoReader
-unfolding opened
+unfolding opened handed
 no_reader f h d =
     let text = lined example_text in
-    let e : reading_number (f text).answer ≡ 0 = ap (λ (r : Read Table). reading_number r.answer) (h text) in
+    let e : reading_number (answer_in (f text)) ≡ 0 =
+    ap (λ (r : Result Table ReadError). reading_number (answer_in r)) (h text)
+    in
     omega (arith, e, d text)
 
 held_example : RunSized (fresh_run example)

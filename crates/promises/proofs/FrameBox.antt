@@ -15,6 +15,7 @@ use Rattle.laws.proofs.Choice.{if_ind, clash, within_high}
 use Rattle.laws.proofs.Highest.{highest_exactly, none_exactly}
 use Rattle.text.specs.Read.{reading_number}
 use Rattle.text.proofs.Refused.{reading_0}
+use Rattle.text.proofs.TableText.{handed_back}
 use Rattle.slots.specs.Frame.{owner_at}
 use Rattle.slots.proofs.Frame.{frame_length, frame_is_the_rule, two_of_24, least_24, shares}
 use Rattle.events.specs.declared.Answer.TheVariants.{Ticked}
@@ -49,7 +50,7 @@ use Rattle.framerun.proofs.Count.{jobs_balance, jobs_balance_of}
 use Rattle.framerun.proofs.Refused.{refused_as_it_was, release_13, release_6, release_8, release_10, release_taken_lem, tick_13}
 use Rattle.framerun.proofs.Refused.{tick_9, tick_10, tick_taken_lem, TickCase, tick_number_lem, start_13, start_run}
 use Rattle.promises.specs.FrameBox.{FrameIsTheRule, TwoOf24, Least24, Shares, GivenAsTheFrame, AlarmsGiven, SaysSo}
-use Rattle.promises.specs.FrameBox.{FrameReadExactly, EachTick, EachLeaving, FrameJobs, FrameRefusals, FrameAsItWas, FrameFromTheText}
+use Rattle.promises.specs.FrameBox.{FrameReadExactly, EachTick, EachLeaving, FrameJobs, FrameRefusals, FrameAsItWas, FrameFromTheText, FrameHandedBack}
 
 pub frame_rule : FrameIsTheRule
 frame_rule = (frame_length, frame_is_the_rule)
@@ -292,6 +293,9 @@ shown_answer text = refl
 started : (t : FrameTable) → frame_table_keeps t ≡ true → starting_number (start_of t).answer ≡ 0
 unfolding start_of
 started t e = rw e
+
+pub frame_handed_back : FrameHandedBack
+frame_handed_back text = handed_back (frame_shown (frame_read text))
 
 pub frame_from_the_text : FrameFromTheText
 frame_from_the_text text = (

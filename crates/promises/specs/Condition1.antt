@@ -5,7 +5,7 @@
 -- a statement of every text, table, run and room is one of all that may be handed in.
 --
 -- The statements, in this order, the words of each above it: of the reader EachRead, NoTableBack,
--- NoTableKeepsNone, ReadKeeps, RowsRead; of a line EachLine, EachFault; of what is handed in
+-- NoTableKeepsNone, ReadKeeps, RowsRead, EachHandedBack, EachHandedNumber; of a line EachLine, EachFault; of what is handed in
 -- TableExactly, SoundExactly; of the run EachStart, EachRelease, EachTick, NeitherCount,
 -- RefusedChangesNothing, EachMany, EachFind; of the writer EachWrite, RoomEnough, WriteThenRead,
 -- ReadThenWrite; EachVerdict, EachCut, EachPrint; and on texts worked out by hand AnswerLines,
@@ -63,10 +63,10 @@ use Rattle.lines.specs.declared.Held.{Held}
 use Rattle.lines.specs.Cutting.{CutInto, cut_of}
 use Rattle.lines.specs.Print.{lines_lent, PrintedInto, print_of}
 use Rattle.lines.specs.Night.{night}
-use Rattle.text.specs.TableText.{Read}
+use Rattle.text.specs.TableText.{Read, handed, answer_in, HandsBack}
 
--- THE READER, numbers 1, 2, 3, 41 to 45 and 5. What the reader hands back for a text: the number,
--- and the line and the field, for 5 both lines.
+-- THE READER, numbers 1, 2, 3, 41 to 45 and 5. What is read of a text: the number, and the line and
+-- the field, for 5 both lines; and the table.
 abbrev pub read_as : List ℕ → Read Table
 read_as text = shown (read text)
 
@@ -198,6 +198,17 @@ abbrev pub RowsRead : Type 0
 RowsRead =
     (text : List ℕ) (a : Rows) →
     (Reads text 0 [] × (rows_of (read_as text).table ≡ a)) ↔ Allowed text a
+
+-- What `reader::read_table` hands back, the table or why there is none, says all this and no more: so
+-- what is stated of `read_as` is so of it. A refusal has no place for a table.
+abbrev pub EachHandedBack : Type 0
+EachHandedBack = (text : List ℕ) → HandsBack (read_as text)
+
+abbrev pub EachHandedNumber : Type 0
+EachHandedNumber =
+    (text : List ℕ) (k : ℕ) (told : List ℕ) →
+    let a = answer_in (handed (read_as text)) in
+    ((reading_number a ≡ k) × (reading_values a ≡ told)) ↔ ReadCase text k told
 
 -- all of these hold
 abbrev pub All : List {1} (Type 0) → Type 0

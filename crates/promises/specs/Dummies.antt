@@ -1,6 +1,6 @@
 -- 01, How we will read your contracts: "Dummies we will try". No function that meets the contract,
 -- on inputs that code can hold, is one of them. proofs/Dummies.antt proves it.
-use Rattle.std.specs.Prelude.{◌≡◌, Bool, true, List, ◌⊎◌, ℕ, ◌+◌, ◌≤◌, ◌<◌}
+use Rattle.std.specs.Prelude.{◌≡◌, Bool, true, List, ◌⊎◌, ℕ, ◌+◌, ◌≤◌, ◌<◌, Result}
 use Rattle.laws.specs.Rows.{sum_below}
 use Rattle.table.specs.declared.Mode.{Mode}
 use Rattle.table.specs.declared.Table.{Table}
@@ -22,11 +22,12 @@ use Rattle.run.specs.Release.{release_of}
 use Rattle.run.specs.Tick.{tick_of}
 use Rattle.events.specs.Count.{any_finished, any_cut}
 use Rattle.promises.specs.Condition2.{RunSized}
-use Rattle.text.specs.TableText.{Read}
+use Rattle.text.specs.declared.ReadError.{ReadError}
+use Rattle.text.specs.TableText.{handed, answer_in}
 
 -- The contracts.
-abbrev pub Reads : (List ℕ → Read Table) → Type 0
-Reads f = (text : List ℕ) → f text ≡ shown (read text)
+abbrev pub Reads : (List ℕ → Result Table ReadError) → Type 0
+Reads f = (text : List ℕ) → f text ≡ handed (shown (read text))
 
 abbrev pub Releases : (Run → ℕ → Answered Run) → Type 0
 Releases f = (r : Run) (k : ℕ) → RunSized r → f r k ≡ release_of r k
@@ -40,7 +41,8 @@ Judges f = (t : Table) (i : ℕ) (m : Mode) → Sized t → f t i m ≡ verdict_
 -- "one refusing everything"
 abbrev pub NoReader : Type 0
 NoReader =
-    (f : List ℕ → Read Table) → Reads f → ((text : List ℕ) → 1 ≤ reading_number (f text).answer) → ⊥
+    (f : List ℕ → Result Table ReadError) → Reads f →
+    ((text : List ℕ) → 1 ≤ reading_number (answer_in (f text))) → ⊥
 
 abbrev pub NoRelease : Type 0
 NoRelease =

@@ -5,7 +5,7 @@ use Rattle.laws.specs.Rows.{sum_below}
 use Rattle.table.specs.declared.Mode.TheVariants.{N}
 use Rattle.table.specs.declared.Refusal.{Refusal}
 use Rattle.text.specs.Read.{reading_number}
-use Rattle.text.specs.TableText.{ReadOf}
+use Rattle.text.specs.TableText.{ReadOf, HandsBack}
 use Rattle.slots.specs.Frame.{measuring, alarm_sending, panel, rule_of, owner_at, the_frame, held_by, stretch, assured}
 use Rattle.events.specs.declared.Event.{Event}
 use Rattle.events.specs.declared.Answer.TheVariants.{Released, Ticked, No}
@@ -148,6 +148,10 @@ FrameFromTheText =
     (starting_number (start_of (frame_shown (frame_read text)).table).answer ≡ 0) ×
     ((es : List Event) → frame_sound (after_in frame_box (start_of (frame_shown (frame_read text)).table).run es) ≡ true)) ×
     ((reading_number (frame_shown (frame_read text)).answer ≡ 0 → ⊥) → (frame_shown (frame_read text)).table ≡ no_frame_table)
+
+-- What `reader::read_frame` hands back, the table or why there is none, says this and no more.
+abbrev pub FrameHandedBack : Type 0
+FrameHandedBack = (text : List ℕ) → HandsBack (frame_shown (frame_read text))
 
 -- "Each is given exactly in its case": what is read from a text is what its case says, 1 and 2 with line
 -- and field, 5 with both lines. (The cases are in crate frametable, specs/Exactly.antt.)

@@ -119,6 +119,6 @@ table_of a =
       tasks = padded 64 no_task a.tasks;
     }
 
--- the table beside a refusal: no tick and no rows
+-- the table of nothing, which stands beside a refusal in what is read: no tick and no rows
 abbrev pub no_table : Table
 no_table = table_of no_rows

@@ -135,7 +135,7 @@ fn is_kept(s: Result<(), Fault>) -> bool
     s.is_ok()
 }
 
-// The table that stands beside a refusal, and that reading begins with: no tick and no rows.
+// The table that reading begins with: no tick and no rows.
 // Kept: zeros are written out: Kind and Level, which the rows hold, have no default.
 #[tactic(auto, unfolding(crate::specs::Rows::table_of))]
 pub fn no_table() -> Table

@@ -22,7 +22,7 @@ use Rattle.decimal.specs.Lines.{line_feed, split}
 use Rattle.table.specs.declared.Refusal.{Refusal}
 use Rattle.table.specs.declared.Refusal.TheVariants.{Malformed, OutOfBounds}
 use Rattle.text.specs.Standing.{is_nil}
-use Rattle.text.specs.TableText.{Read, handed, handed_by, ReadOf, refused_beside, pair_told, line_told, TableText, read_lines, read_text, LinesKeep, rows_grown, standing_of, Reading}
+use Rattle.text.specs.TableText.{Read, handed, handed_by, answer_in, HandsBack, ReadOf, refused_beside, pair_told, line_told, TableText, read_lines, read_text, LinesKeep, rows_grown, standing_of, Reading}
 use Rattle.text.proofs.Standing.{is_nil_lem}
 use Rattle.table.specs.Refusals.{breaks, Standing}
 use Rattle.text.specs.declared.ReadError.TheVariants.{Refused}
@@ -255,3 +255,15 @@ handed_taken r t e = go r.answer refl e
     go : (a : Reading) → r.answer ≡ a → handed_by r.table a ≡ Ok t → (r.answer ≡ Ok tt) × (r.table ≡ t)
     go (Ok tt) f h = (f, cc)
     go (Err why) f h = cc
+
+pub handed_back : {T : Type 0} (r : Read T) → HandsBack r
+unfolding handed
+handed_back r =
+    record {
+      answer = answered r.answer;
+      table = λ t. (handed_taken r t, λ p. rw p.0 (ap Ok p.1));
+    }
+  where
+    answered : (a : Reading) → answer_in (handed_by r.table a) ≡ a
+    answered (Ok tt) = refl
+    answered (Err why) = refl

@@ -66,6 +66,7 @@ unfoldable pub read : List ℕ → ReadRows
 unfolding read_text read_lines
 read = read_text table_text
 
--- As the reader hands it back: the table beside a refusal is no_table of crate table.
+-- The answer with the table that the rows make: of a refused text that is no_table of crate table. The
+-- reader hands it back as `handed` says: the table, or why there is none.
 unfoldable pub shown : ReadRows → Read Table
 shown r = record { answer = r.answer; table = table_of r.rows }

@@ -1,7 +1,7 @@
 -- 01, Numbers for no: how the text of a table is read, of whatever kind the table is. "Reading:
 -- length first; then line by line". What is a kind's own (what its lines say, where they may stand,
 -- what is asked at the end) is a record TableText; document 01's is table_text in Read.antt.
-use Rattle.std.specs.Prelude.{◌≡◌, List, [], ◌∷◌, map, ℕ, ◌+◌, leb, length, get_or, take, None, Option, Some, Err, Ok, Result}
+use Rattle.std.specs.Prelude.{◌≡◌, List, [], ◌∷◌, map, ◌↔◌, ℕ, ◌+◌, leb, length, get_or, take, None, Option, Some, Err, Ok, Result}
 use Rattle.laws.specs.Choice.{unless◌say◌else◌}
 use Rattle.decimal.specs.Lines.{line_feed, split}
 use Rattle.table.specs.declared.Refusal.{Refusal}
@@ -42,6 +42,16 @@ handed_by t (Err why) = Err why
 
 unfoldable pub handed : {T : Type 0} → Read T → Result T ReadError
 handed r = handed_by r.table r.answer
+
+-- What is answered by what is handed back: beside the table, or why there is none.
+abbrev pub answer_in : {T : Type 0} → Result T ReadError → Reading
+answer_in (Ok t) = Ok tt
+answer_in (Err why) = Err why
+
+-- What is handed back says what was read: the answer, and a table exactly where the text is taken.
+pub record HandsBack {T : Type 0} (r : Read T) : Type 0 where
+  pub answer : answer_in (handed r) ≡ r.answer
+  pub table : (t : T) → (handed r ≡ Ok t) ↔ ((r.answer ≡ Ok tt) × (r.table ≡ t))
 
 -- 5, "equal priorities", "both lines". "Rows count from 0 within their kind, lines from 1": row 0
 -- stands on line `top`. Where no two are equal, r is said.
