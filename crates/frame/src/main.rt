@@ -23,7 +23,9 @@ impl NightBox for TheBox {
     ghost the_box = { frame_box };
 
     fn serve(r: FrameRun, h: Held, input: &[u8], room: &mut [u8]) -> Served<FrameRun> {
-        frameserving::serve(r, h, input, room)
+        // Kept: named, since the proof speaks of it by this name, whatever is then handed on.
+        let served = frameserving::serve(r, h, input, room);
+        served
     }
 }
 

@@ -23,7 +23,9 @@ impl NightBox for TheBox {
     ghost the_box = { the_box };
 
     fn serve(r: Run, h: Held, input: &[u8], room: &mut [u8]) -> Served<Run> {
-        serving::serve(r, h, input, room)
+        // Kept: named, since the proof speaks of it by this name, whatever is then handed on.
+        let served = serving::serve(r, h, input, room);
+        served
     }
 }
 

@@ -1,6 +1,7 @@
 -- A file read in pieces: what stands after a batch of lines of a piece, that a piece after another is
 -- one piece, and that the page of all of them is the report of the file. Assumes nothing.
-use Rattle.std.proofs.Common.{None, Option, Some, Err, Ok}
+use Rattle.std.proofs.Common.{None, Option, Some, Err, Ok, MatchOption}
+use Rattle.std.specs.Bool.{⊤}
 use mathlib.Core.Path.{◌≡◌, refl, sym, ap, subst, ◌∙◌}
 use mathlib.Core.Bool.{true}
 use mathlib.Core.List.{List, [], ◌∷◌, ◌++◌, append-nil, append_assoc}
@@ -54,7 +55,10 @@ use Rattle.report.specs.declared.count.Counts.{Counts}
 use Rattle.report.specs.Inner.Count.{Counted, no_counts, TicksHanded, SomeTicks, CountedAfter}
 use Rattle.report.specs.Inner.Page.{server_in, task_in, mode_in, page_in}
 use Rattle.report.specs.declared.Morning.{Morning}
-use Rattle.report.specs.Pieces.{Stand, start_with, After, AfterSome, Reads, ReadsSome, ReadsAll, joined, PageOf, standing}
+use Rattle.files.specs.declared.How.{How}
+use Rattle.files.specs.declared.How.TheVariants.{On, End, Failed}
+use borrow.Author.Rules.{rules}
+use Rattle.report.specs.Pieces.{Stand, start_with, After, AfterSome, Reads, ReadsSome, ReadsAll, joined, PageOf, standing, whole}
 use Rattle.text.specs.declared.ReadError.TheVariants.{Equal, Refused}
 use Rattle.text.specs.TableText.{Reading}
 
@@ -104,6 +108,13 @@ reads_then p q f g t bytes a = rw (← append_assoc bytes p q) (g t (bytes ++ p)
 
 pub some_then : (s m : Stand) {z : Stand} {q : List ℕ} → ReadsSome s m → Reads q m z → ReadsSome s z
 some_then s m {q = q} f g = (f.0 ++ q, reads_then f.0 q f.1 g)
+
+-- what is handed on of a file whose last read ended so
+pub whole_then : (s : Stand) (how : How) (m : Morning) (counts : Counts) → ReadsSome s (standing m counts) →
+    MatchOption (whole how m) ⊤ (λ x. ReadsSome s (standing x counts))
+whole_then s On m counts p = search rules
+whole_then s End m counts p = p
+whole_then s Failed m counts p = search rules
 
 pub some_after : (s : Stand) {z : Stand} → AfterSome s → ReadsSome s z → AfterSome z
 some_after s a f = (a.0, a.1 ++ f.0, f.1 a.0 a.1 a.2)

@@ -2,7 +2,7 @@
 -- buffer and the cutting of the file into reads must not show". What stands after some bytes of the
 -- file depends on these bytes alone, however they were cut into pieces; that the page is then the
 -- report of the whole file is a theorem (proofs/Pieces.antt, `pieces_report`).
-use Rattle.std.specs.Prelude.{◌≡◌, Bool, true, false, List, [], ◌∷◌, ◌++◌, ℕ}
+use Rattle.std.specs.Prelude.{◌≡◌, Bool, true, false, List, [], ◌∷◌, ◌++◌, ℕ, if◌then◌else◌, Option, None, Some}
 use Rattle.decimal.specs.Lines.{closed}
 use Rattle.table.specs.declared.Table.{Table}
 use Rattle.table.specs.Rules.{table_keeps}
@@ -76,6 +76,10 @@ abbrev pub is_whole : How → Bool
 is_whole On = false
 is_whole End = true
 is_whole Failed = false
+
+-- what was counted, where it was read whole
+abbrev pub whole : How → Morning → Option Morning
+whole how m = if is_whole how then Some m else None
 
 -- one piece after the other
 unfoldable pub ReadsAll : List (List ℕ) → Stand → Stand → Type 0

@@ -10,7 +10,7 @@ mod page;
 
 ghost use Rattle.std.specs.Prelude.{◌≡◌, ◌≤◌, length, take, MatchOption, ⊤};
 ghost use Rattle.report.specs.Inner.Page.{longest_page};
-ghost use Rattle.report.specs.Pieces.{standing, AfterSome, Reads, ReadsSome, piece_of, goes_on, is_whole, PageOf};
+ghost use Rattle.report.specs.Pieces.{standing, AfterSome, Reads, ReadsSome, piece_of, goes_on, whole, PageOf};
 
 use count::{Counts, no_counts};
 use events::{LINE_VALUES, TOLD_VALUES};
@@ -81,11 +81,11 @@ fn goes_on(how: How) -> bool
     how == How::On
 }
 
-// Whether it was read whole then.
-fn is_whole(how: How) -> bool
-    ensures { result ≡ is_whole how }
+// What was counted of a file that ended so: all of it, or nothing where it was not read to its end.
+fn whole(how: How, m: Morning) -> Option<Morning>
+    ensures { result ≡ whole how m }
 {
-    how == How::End
+    if how == How::End { Some(m) } else { None }
 }
 
 // The whole file, or none where it could not be read to its end. Nothing else reads it.
@@ -105,7 +105,7 @@ fn count_all<R: Eprint, S: Read>(
         let got = files::take_piece(rt, events, &mut piece);
         m = next(m, got.how, &piece[..got.len], counts);
         if !goes_on(got.how) {
-            return if is_whole(got.how) { Some(m) } else { None };
+            return whole(got.how, m);
         }
     }
     None

@@ -12,10 +12,10 @@ pub returns : goal.returns
 returns c =
     let a = c.args in
     record {
-      served = ap service_of c.serve.ensures;
+      served = ap service_of c.serve-served.ensures;
       sound =
           λ q.
-          rw (ap (λ (d : Buffered). d.served.run) c.serve.ensures)
+          rw (ap (λ (d : Buffered). d.served.run) c.serve-served.ensures)
           (served_sound the_box a.r a.h a.input.now a.room.now q
           (λ ls.
           (lines_keep a.r ls
