@@ -92,6 +92,20 @@ pub const LINE_VALUES: usize = 2;
 
 pub const TOLD_VALUES: usize = 9;
 
+// Where they stand, of a tick that is taken: its mode, what it says and of which server, how a job
+// left and of which task, and how many were discarded.
+pub const TOLD_MODE: usize = 2;
+
+pub const TOLD_WHAT: usize = 3;
+
+pub const TOLD_SERVER: usize = 4;
+
+pub const TOLD_HOW: usize = 6;
+
+pub const TOLD_TASK: usize = 7;
+
+pub const TOLD_DISCARDED: usize = 8;
+
 // What an event line says by its two numbers: its event, or none where it is another line.
 pub fn line_said(x: u64, v: u64) -> Option<Event>
     ensures { result ≡ line_said x v }

@@ -4,9 +4,11 @@
 // (specs/Values.antt). A second door hands out of the ticks taken among the lines what is told and
 // what is found (specs/Found.antt).
 
-ghost use Rattle.std.specs.Prelude.{◌≡◌, ◌/◌, ◌≤◌, length, get_or};
+ghost use Rattle.std.specs.Prelude.{◌≡◌, ◌/◌, ◌≤◌, length, get_or, if◌then◌else◌};
+ghost use Rattle.table.specs.declared.Refusal.TheVariants.{RoomShort, Unsound};
 ghost use Rattle.events.specs.Values.{line_said};
 ghost use Rattle.run.specs.Many.{many_of, find_of};
+ghost use Rattle.run.specs.Sound.{sound};
 ghost use Rattle.scheduler.specs.Inner.Steps.{none_found};
 ghost use Rattle.scheduler.specs.Inner.Events.{SomeRun};
 ghost use Rattle.scheduler.specs.Inner.Many.{LineTaken, LinesTaken, LinesFound, finding_of};
@@ -80,15 +82,26 @@ fn find_lines(
     ticks
 }
 
+// Why no line is taken where a lent room is short: 13, then 12. No sheets are made for that.
+fn refusal_of(r: Run) -> Refusal
+    ensures { result ≡ (if sound r then RoomShort else Unsound) }
+{
+    if soundness::run_sound(r.table, r.state) {
+        Refusal::RoomShort
+    } else {
+        Refusal::Unsound
+    }
+}
+
 // Many event lines on a run: 13, then 12, are why none of them is taken.
 fn answer_in(run: &mut Run, lines: &[u64], told: &mut [u64]) -> Result<(), Refusal>
     ensures { record { many = record { answer = result; run = run.new }; room = told.new }
         ≡ many_of run.old lines.now told.old }
 {
-    let sheets = open(*run)?;
     if told.len() / TOLD_VALUES < lines.len() / LINE_VALUES {
-        return Err(Refusal::RoomShort);
+        return Err(refusal_of(*run));
     }
+    let sheets = open(*run)?;
     answer_lines(&sheets, &mut run.state, lines, told);
     Ok(())
 }
@@ -113,11 +126,11 @@ fn find_in(
     ensures { record { finding = finding_of run.new result; told = told.new; found = found.new }
         ≡ find_of run.old lines.now told.old found.old }
 {
-    let sheets = open(*run)?;
     let n = lines.len() / LINE_VALUES;
     if told.len() / TOLD_VALUES < n || found.len() / FOUND_VALUES < n {
-        return Err(Refusal::RoomShort);
+        return Err(refusal_of(*run));
     }
+    let sheets = open(*run)?;
     Ok(find_lines(&sheets, &mut run.state, lines, told, found))
 }
 

@@ -1,9 +1,11 @@
 -- Many event lines taken one after the other: after i of them the run, what was told and the rest
 -- of the room are what the definition says of the lines so far. Assumes nothing.
 use Rattle.std.proofs.Common.{Ok, Option, if◌then◌else◌}
+use Rattle.std.proofs.lemmas.Bool.{cases_Bool}
 use mathlib.Core.Path.{◌≡◌, refl, sym, ap, ap₂, subst, ◌∙◌}
 use mathlib.Core.Bool.{Bool, true, false}
 use mathlib.Core.List.{List, [], ◌∷◌, ◌++◌}
+use mathlib.Core.Logic.{inl, inr}
 use Prim.Native.Nat.{ℕ, zero, suc, ◌+◌, ◌*◌, ◌/◌, ◌≤◌, ◌<◌}
 use native.Mathlib.Omega.{arith}
 use native.Mathlib.Nat.{add-zero}
@@ -15,6 +17,7 @@ use Rattle.std.proofs.lemmas.List.{get_or-drop, drop-drop}
 use borrow.Author.Tests.{le-leb, lt-leb}
 use Rattle.laws.proofs.Choice.{if_ind}
 use Rattle.table.specs.declared.Table.{Table}
+use Rattle.table.specs.declared.Refusal.{Refusal}
 use Rattle.table.specs.declared.Refusal.TheVariants.{RoomShort, Unsound}
 use Rattle.events.specs.Boxes.{after_lines_in}
 use Rattle.run.specs.declared.Run.{Run}
@@ -216,10 +219,30 @@ unfolding many_of
 many_taken r vs room e h =
     rw (e, le-leb (9 * length (lines_said vs)) (length room) (omega (arith, lines_length vs)))
 
+-- where a room is short: 13, and else what is said of a sound run
+pub many_refused : (r : Run) (vs room : List ℕ) (why : Refusal) → why ≡ (if sound r then RoomShort else Unsound) →
+    (sound r ≡ true → untaken RoomShort r room ≡ many_of r vs room) → untaken why r room ≡ many_of r vs room
+many_refused r vs room why e short =
+    rw e
+    (elim (cases_Bool (sound r)) [
+      | inl s ↦ rw s (short s)
+      | inr s ↦ rw s (many_unsound r vs room s)
+    ])
+
 pub find_unsound : (r : Run) (vs told found : List ℕ) → sound r ≡ false →
     unfound Unsound r told found ≡ find_of r vs told found
 unfolding find_of
 find_unsound r vs told found e = rw e
+
+pub find_refused : (r : Run) (vs told found : List ℕ) (why : Refusal) → why ≡ (if sound r then RoomShort else Unsound) →
+    (sound r ≡ true → unfound RoomShort r told found ≡ find_of r vs told found) →
+    unfound why r told found ≡ find_of r vs told found
+find_refused r vs told found why e short =
+    rw e
+    (elim (cases_Bool (sound r)) [
+      | inl s ↦ rw s (short s)
+      | inr s ↦ rw s (find_unsound r vs told found s)
+    ])
 
 module _ (r : Run) (vs told found : List ℕ) (e : sound r ≡ true) where
   pub find_short_told : length told / 9 < length vs / 2 → unfound RoomShort r told found ≡ find_of r vs told found

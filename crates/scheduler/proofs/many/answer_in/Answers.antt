@@ -1,8 +1,8 @@
--- `scheduler::many::answer_in` meets its contract: 13 is decided first, then 12, and a sound run
+-- `scheduler::many::answer_in` meets its contract: 13 is told before 12, and a sound run
 -- goes to the loop behind the door. Assumes nothing.
 use mathlib.Core.Path.{◌∙◌}
 use Rattle.std.proofs.lemmas.Result.{err_from_is_err_and}
-use Rattle.scheduler.proofs.Inner.Many.{many_unsound, many_short, many_taken}
+use Rattle.scheduler.proofs.Inner.Many.{many_unsound, many_short, many_refused, many_taken}
 use Rattle.scheduler.proofs.many.answer_in.Goals as goal
 
 pub returns-in_err-sheets : goal.returns-in_err-sheets
@@ -15,7 +15,8 @@ returns-in_err-sheets c =
 pub returns-then-told-lines : goal.returns-then-told-lines
 returns-then-told-lines c =
     let a = c.args in
-    many_short a.run.now a.lines.now a.told.now c.in_ok-sheets.ensures.sound c.if-told-lines.true
+    many_refused a.run.now a.lines.now a.told.now c.refusal_of.result c.refusal_of.ensures
+    (λ s. many_short a.run.now a.lines.now a.told.now s c.if-told-lines.true)
 
 pub returns : goal.returns
 returns c =
