@@ -49,7 +49,7 @@ fn settle(t: &FrameTable, s: &mut FrameState, mark: bool) -> Left
 
 // Whether a task is of this partition, has a waiting job, and is above what was found so far.
 // Kept: a row by value: its fields are then read at once, whatever the first test says. Lent, a frame
-// box of 64 tasks took a quarter more time.
+// box of 64 tasks took 1.08 to 1.29 of the time.
 fn is_higher(k: FrameTask, waiting: u8, p: u8, height: u8) -> bool
     ensures { result ≡ ((ltb 0 waiting && eqb k.partition p) && ltb height k.priority) }
 {
